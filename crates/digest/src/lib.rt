@@ -1,0 +1,3 @@
+// Digests: what a digest is, FNV-1a of 64 bits, and SHA-256.
+pub mod fnv;
+pub mod interface;
