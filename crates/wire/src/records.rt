@@ -33,3 +33,10 @@ pub struct Request {
     pub payload: u64,
     pub seal: u64,
 }
+
+// A batch of at most 16 requests; the places past its count hold zeros.
+#[derive(Clone, Copy)]
+pub struct Batch {
+    pub count: u8,
+    pub requests: [Request; 16],
+}

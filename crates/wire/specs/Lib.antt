@@ -1,0 +1,4 @@
+pub mod Bytes
+pub mod Values
+pub mod Frames
+pub mod Laws
