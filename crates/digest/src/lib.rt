@@ -1,3 +1,4 @@
 // Digests: what a digest is, FNV-1a of 64 bits, and SHA-256.
+pub mod batches;
 pub mod fnv;
 pub mod interface;

@@ -9,13 +9,13 @@ use lib.Dec.{ltb}
 use lib.ListN.{length, take, drop, replicate, getD}
 use Rattle.std.specs.declared.result.Result.the-variants.{Ok}
 use Rattle.std.specs.shelf.Lists.{joined}
-use Rattle.std.proofs.shelf.Lists.{places, same-lists, length-append, length-drop, length-take, length-take-le, take-append-drop, take-more, joined-more, drop-replicate, length-replicate, drop-all}
+use Rattle.std.proofs.shelf.Lists.{places, same-lists, length-append, length-drop, length-take, length-take-le, take-append-drop, take-more, joined-more, drop-replicate, length-replicate, drop-all, take-at}
 use Rattle.std.proofs.shelf.Tests.{cond-false, le-ltb, cases-lt}
 use Rattle.wire.specs.declared.records.Sealed.{Sealed}
 use Rattle.wire.specs.declared.records.Request.{Request}
 use Rattle.wire.specs.declared.frame.BatchFrame.{BatchFrame}
 use Rattle.wire.specs.Bytes.{put-over}
-use Rattle.wire.specs.Frames.{unknown-kind, sealed-frame, write-sealed, request-bytes, batch-head, batch-frame, buffered, write-batch, store-batch, no-request}
+use Rattle.wire.specs.Frames.{unknown-kind, sealed-frame, write-sealed, request-bytes, batch-head, batch-frame, buffered, write-batch, store-batch, no-request, body-bytes, batch-body}
 
 pub sealed-written : (s : Sealed) (f : List ℕ) → f ≡ sealed-frame s → unknown-kind (s .statement .kind) ≡ false → Ok f ≡ write-sealed s
 sealed-written s f e k = ap Ok e ∙ sym (cond-false (unknown-kind (s .statement .kind)) _ _ k)
@@ -75,3 +75,9 @@ drop-min k xs = go (cases-lt (length xs) k)
     go : (length xs < k) ⊎ (k ≤ length xs) → drop (min (length xs) k) xs ≡ drop k xs
     go (inl h) = drop-all (min (length xs) k) xs (omega arith) ∙ sym (drop-all k xs (omega arith))
     go (inr h) = let e : min (length xs) k ≡ k = omega arith in ap (λ n. drop n xs) e
+
+-- a written batch, from the count byte on
+pub body-back : (rs : List Request) → length rs ≤ 16 → body-bytes (buffered rs) ≡ batch-body rs
+body-back rs h =
+    let size = length-joined rs in
+    ap (drop 4) (take-at (batch-frame rs) (replicate (336 - 21 * length rs) 0) (min (5 + 21 * length rs) 341) (omega arith))
