@@ -11,19 +11,22 @@ use Rattle.std.proofs.shelf.Tests.{cases-lt}
 use Rattle.digest.specs.Constants.{K, initial}
 use Rattle.digest.specs.Words.{word-at}
 use Rattle.digest.specs.Sha256.{next-word, words, schedule, round, rounds, compressed, sha256}
-use Rattle.digest.specs.Laws.{Abc, Abcd, Fewest, First-words, Recurrence, W}
+use Rattle.digest.specs.Laws.{One-block, Two-blocks, Fewest-zeros, First-words, Recurrence, Fnv-examples, W}
 use Rattle.digest.proofs.Rounds.{schedule-more}
 
-pub abc : Abc
-unfolding K initial next-word words schedule round rounds compressed sha256
-abc = refl
+pub fnv-examples : Fnv-examples
+fnv-examples = (refl, refl, refl)
 
-pub abcd : Abcd
+pub one-block : One-block
 unfolding K initial next-word words schedule round rounds compressed sha256
-abcd = refl
+one-block = refl
 
-pub fewest : Fewest
-fewest n = (omega arith, λ k h. omega arith)
+pub two-blocks : Two-blocks
+unfolding K initial next-word words schedule round rounds compressed sha256
+two-blocks = refl
+
+pub fewest-zeros : Fewest-zeros
+fewest-zeros n = (omega arith, λ k h. omega arith)
 
 length-words : (n : ℕ) (block : List ℕ) → length (words n block) ≡ n
 unfolding words

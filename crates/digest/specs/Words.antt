@@ -43,22 +43,21 @@ abbrev pub σ1 : ℕ → ℕ
 
 -- big-endian: the word in the four bytes from i on, and the bytes of a number of 32 or 64 bits
 abbrev pub word-at : List ℕ → ℕ → ℕ
-word-at bs i = getD bs i 0 * 16777216 + getD bs (i + 1) 0 * 65536 + getD bs (i + 2) 0 * 256 + getD bs (i + 3) 0
+word-at bs i = getD bs i 0 * 2 ^ 24 + getD bs (i + 1) 0 * 2 ^ 16 + getD bs (i + 2) 0 * 2 ^ 8 + getD bs (i + 3) 0
 
 abbrev pub bytes4 : ℕ → List ℕ
-bytes4 n = (n / 16777216 % 256) ∷ (n / 65536 % 256) ∷ (n / 256 % 256) ∷ (n % 256) ∷ []
+bytes4 n = (n / 2 ^ 24 % 256) ∷ (n / 2 ^ 16 % 256) ∷ (n / 2 ^ 8 % 256) ∷ (n % 256) ∷ []
 
 abbrev pub bytes8 : ℕ → List ℕ
 bytes8 n =
-    (n / 72057594037927936 % 256) ∷ (n / 281474976710656 % 256) ∷ (n / 1099511627776 % 256) ∷ (n / 4294967296 % 256)
-    ∷ (n / 16777216 % 256) ∷ (n / 65536 % 256) ∷ (n / 256 % 256) ∷ (n % 256) ∷ []
+    (n / 2 ^ 56 % 256) ∷ (n / 2 ^ 48 % 256) ∷ (n / 2 ^ 40 % 256) ∷ (n / 2 ^ 32 % 256)
+    ∷ (n / 2 ^ 24 % 256) ∷ (n / 2 ^ 16 % 256) ∷ (n / 2 ^ 8 % 256) ∷ (n % 256) ∷ []
 
 -- and the number in the eight bytes from i on
 abbrev pub eight-at : List ℕ → ℕ → ℕ
 eight-at bs i =
-    getD bs i 0 * 72057594037927936 + getD bs (i + 1) 0 * 281474976710656 + getD bs (i + 2) 0 * 1099511627776
-    + getD bs (i + 3) 0 * 4294967296 + getD bs (i + 4) 0 * 16777216 + getD bs (i + 5) 0 * 65536 + getD bs (i + 6) 0 * 256
-    + getD bs (i + 7) 0
+    getD bs i 0 * 2 ^ 56 + getD bs (i + 1) 0 * 2 ^ 48 + getD bs (i + 2) 0 * 2 ^ 40 + getD bs (i + 3) 0 * 2 ^ 32
+    + getD bs (i + 4) 0 * 2 ^ 24 + getD bs (i + 5) 0 * 2 ^ 16 + getD bs (i + 6) 0 * 2 ^ 8 + getD bs (i + 7) 0
 
 -- xs with ys written over what stands from `at` on
 abbrev pub put-over : List ℕ → ℕ → List ℕ → List ℕ

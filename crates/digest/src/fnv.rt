@@ -6,6 +6,7 @@ use crate::interface::Digest;
 use wire::records::DigestValue;
 
 const OFFSET_BASIS: u64 = 0xcbf2_9ce4_8422_2325;
+
 const PRIME: u64 = 0x100_0000_01b3;
 
 // One byte more.

@@ -6,10 +6,12 @@ ghost use lib.ListN.{length};
 ghost use Rattle.std.specs.shelf.Lists.{folded, joined};
 ghost use Rattle.digest.specs.Words.{bytes4, put-over};
 ghost use Rattle.digest.specs.Sha256.{blocks as blocked, padding, compressed, sha256 as hashed};
+
 mod compress;
 mod constants;
 mod words;
 mod working;
+
 use crate::sha256::compress::compress;
 use crate::sha256::constants::INITIAL;
 

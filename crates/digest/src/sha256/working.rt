@@ -21,7 +21,16 @@ impl Working {
         ensures { λ r. ⌜ r ≡ working (now (hash .entry)) ⌝ }
     {
         let [a, b, c, d, e, f, g, h] = *hash;
-        Working { a, b, c, d, e, f, g, h }
+        Working {
+            a,
+            b,
+            c,
+            d,
+            e,
+            f,
+            g,
+            h,
+        }
     }
 
     // Step 3: one round.
