@@ -26,7 +26,7 @@ Fewest-zeros = (n : ℕ) → ((n + 1 + zeros n) % 64 ≡ 56) × ((k : ℕ) → (
 
 -- 6.2.2, step 1, as the standard writes it
 abbrev pub W : List ℕ → ℕ → ℕ
-W block t = getD (schedule 48 block) t 0
+W block t = getD (schedule 64 block) t 0
 
 abbrev pub First-words : Type 0
 First-words = (block : List ℕ) (t : ℕ) → t < 16 → W block t ≡ word-at block (t * 4)

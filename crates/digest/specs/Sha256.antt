@@ -1,6 +1,8 @@
 -- SHA-256 of a list of bytes, after FIPS 180-4.
+use mathlib.Core.Bool.{cond}
 use mathlib.Core.List.{List, [], _∷_, _++_}
 use Prim.Native.Nat.{ℕ, zero, suc, _+_, _-_, _*_, _/_, _%_, _^_}
+use lib.Dec.{ltb}
 use lib.ListN.{length, getD, replicate}
 use Rattle.std.specs.Vectors.{chunked}
 use Rattle.std.specs.shelf.Lists.{folded, joined}
@@ -23,19 +25,17 @@ padded m = m ++ padding (length m) (length m * 8 % 2 ^ 64)
 abbrev pub blocks : List ℕ → List (List ℕ)
 blocks p = chunked 64 (length p / 64) p
 
--- 6.2.2, step 1: W_t of the words before it
-unfoldable pub next-word : List ℕ → ℕ → ℕ
-next-word ws t = word (σ1 (getD ws (t - 2) 0) + getD ws (t - 7) 0 + σ0 (getD ws (t - 15) 0) + getD ws (t - 16) 0)
+-- 6.2.2, step 1: W_t, below 16 a word of the block, from there on made of the words before it
+unfoldable pub schedule-word : List ℕ → List ℕ → ℕ → ℕ
+schedule-word block ws t =
+    cond (ltb t 16)
+    (word-at block (t * 4))
+    (word (σ1 (getD ws (t - 2) 0) + getD ws (t - 7) 0 + σ0 (getD ws (t - 15) 0) + getD ws (t - 16) 0))
 
--- the first n words of a block
-unfoldable pub words : ℕ → List ℕ → List ℕ
-words zero block = []
-words (suc n) block = words n block ++ word-at block (n * 4) ∷ []
-
--- the first 16 + n words of the schedule
+-- the first t words of the schedule
 unfoldable pub schedule : ℕ → List ℕ → List ℕ
-schedule zero block = words 16 block
-schedule (suc n) block = let before = schedule n block in before ++ next-word before (16 + n) ∷ []
+schedule zero block = []
+schedule (suc t) block = let before = schedule t block in before ++ schedule-word block before t ∷ []
 
 -- step 3: one round, with the constant k and the word w
 unfoldable pub round : Working → ℕ → ℕ → Working
@@ -69,7 +69,7 @@ added hs v =
     ∷ word (v .e + getD hs 4 0) ∷ word (v .f + getD hs 5 0) ∷ word (v .g + getD hs 6 0) ∷ word (v .h + getD hs 7 0) ∷ []
 
 unfoldable pub compressed : List ℕ → List ℕ → List ℕ
-compressed hs block = added hs (rounds 64 (schedule 48 block) (working hs))
+compressed hs block = added hs (rounds 64 (schedule 64 block) (working hs))
 
 -- the last intermediate hash value, and the message digest: its words' bytes
 unfoldable pub sha256 : List ℕ → List ℕ
