@@ -2,3 +2,6 @@
 pub mod batches;
 pub mod fnv;
 pub mod interface;
+pub mod laws;
+pub mod sha256;
+pub mod truncated;
