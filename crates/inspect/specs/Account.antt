@@ -18,4 +18,5 @@ abbrev pub raised : ℕ → ℕ
 raised n = cond (ltb n 18446744073709551615) (n + 1) n
 
 abbrev pub counted : Account → Frame → Account
-counted a f = record { lines = a .lines; unread = a .unread; rows = set (a .rows) (row-of f) (raised (getD (a .rows) (row-of f) 0)) }
+counted a f =
+    cond (ltb (row-of f) 10) (record { lines = a .lines; unread = a .unread; rows = set (a .rows) (row-of f) (raised (getD (a .rows) (row-of f) 0)) }) a

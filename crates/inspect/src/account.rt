@@ -20,7 +20,7 @@ fn raise(n: u64) -> u64
 }
 
 impl Account {
-    pub fn new() -> Account
+    pub(crate) fn new() -> Account
         ensures { λ r. ⌜ r ≡ record { lines = 0; unread = 0; rows = replicate 10 0 } ⌝ }
     {
         Account {
@@ -31,7 +31,7 @@ impl Account {
     }
 
     // One line more; its number.
-    pub fn next_line(&mut self) -> u64
+    pub(crate) fn next_line(&mut self) -> u64
         ensures value { λ r. ⌜ r ≡ raised (now (self .entry) .lines) ⌝ }
         ensures after { λ r. ⌜ now (self .exit) ≡ record { lines = raised (now (self .entry) .lines); unread = now (self .entry) .unread; rows = now (self .entry) .rows } ⌝ }
     {
@@ -39,13 +39,13 @@ impl Account {
         self.lines
     }
 
-    pub fn count_unread(&mut self)
+    pub(crate) fn count_unread(&mut self)
         ensures { λ r. ⌜ now (self .exit) ≡ record { lines = now (self .entry) .lines; unread = raised (now (self .entry) .unread); rows = now (self .entry) .rows } ⌝ }
     {
         self.unread = raise(self.unread);
     }
 
-    pub fn count(&mut self, frame: &Frame)
+    pub(crate) fn count(&mut self, frame: &Frame)
         ensures { λ _. ⌜ now (self .exit) ≡ counted (now (self .entry)) (now (frame .entry)) ⌝ }
     {
         let row = match frame {

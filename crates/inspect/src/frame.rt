@@ -33,7 +33,7 @@ fn batch_in(bytes: &[u8]) -> Frame
 }
 
 // A batch where the kind byte says so, else a sealed statement.
-pub fn frame_in(bytes: &[u8]) -> Frame
+pub(crate) fn frame_in(bytes: &[u8]) -> Frame
     ensures { λ r. ⌜ r ≡ frame-in (now (bytes .entry)) ⌝ }
 {
     match bytes {

@@ -7,6 +7,7 @@ mod shown;
 use account::Account;
 use frame::Frame;
 use frame::frame_in;
+use shown::show_account;
 use shown::show_batch;
 use shown::show_fault;
 use shown::show_statement;
@@ -54,16 +55,15 @@ fn take_line(rt: &LibcRuntime, account: &mut Account, text: &[u8]) -> Result<(),
 
 fn run(rt: &LibcRuntime) -> Result<(), AnyError> {
     let mut account = Account::new();
-    for line in BufReader::new(rt.stdin()).lines(rt.alloc()) {
+    for line in BufReader::new(rt.stdin()).split(rt.alloc(), b'\n') {
         let text = line?;
-        let bytes = text.as_bytes();
-        match bytes {
+        match text.as_slice() {
             [] => {}
             [b'#', ..] => {}
-            _ => take_line(rt, &mut account, bytes)?,
+            bytes => take_line(rt, &mut account, bytes)?,
         }
     }
-    shown::show_account(rt, &account)
+    show_account(rt, &account)
 }
 
 fn main(rt: LibcRuntime) -> Result<(), AnyError> {
