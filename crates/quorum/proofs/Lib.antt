@@ -1,2 +1,4 @@
-pub mod Counting
 pub mod Allowed
+pub mod Counting
+pub mod Groups
+pub mod Rolls
