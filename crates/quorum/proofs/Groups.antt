@@ -1,23 +1,27 @@
 -- The check of a group: its steps, and what it shows.
-use mathlib.Core.Path.{_≡_, refl, sym, ap, _∙_}
+use mathlib.Core.Path.{_≡_, refl, sym, ap, subst, _∙_}
+use mathlib.Core.Logic.{_⊎_, inl, inr}
 use mathlib.Core.Bool.{Bool, true, false, cond, _&&_}
 use mathlib.Core.List.{List, [], _∷_}
 use Prim.Native.Nat.{ℕ, zero, suc, _+_, _-_, _<_, _≤_}
 use native.Mathlib.Omega.{arith}
-use lib.Dec.{ltb, leb}
+use lib.Dec.{ltb, leb, eqb}
+use lib.Seq.{take-all}
 use lib.ListN.{length, getD, take, drop, length-take}
 use Rattle.std.specs.shelf.Lists.{All}
-use Rattle.std.proofs.shelf.Tests.{and-parts, and-from, leb-true, ltb-true, le-leb, lt-leb, lt-ltb, cond-true, cond-false}
+use Rattle.std.proofs.shelf.Tests.{and-parts, and-from, leb-true, ltb-true, le-leb, lt-leb, lt-ltb, le-ltb, eq-eqb, ne-eqb, cases-lt, cases-eq, cond-true, cond-false}
 use Rattle.std.proofs.shelf.Ways.{tells}
 use Rattle.std.specs.Results.{isOk}
 use Rattle.std.proofs.shelf.Lists.{at-drop-more, at-drop-all}
-use Rattle.std.specs.declared.option.Option.the-variants.{Some}
+use Rattle.std.specs.declared.option.Option.the-variants.{Some, None}
+use Rattle.std.specs.declared.option.Option.{Option}
 use Rattle.std.specs.declared.result.Result.{Result}
 use Rattle.std.specs.declared.result.Result.the-variants.{Ok, Err}
 use Rattle.wire.specs.declared.records.Statement.{Statement}
 use Rattle.wire.specs.declared.records.Sealed.{Sealed}
 use Rattle.quorum.specs.Sets.{count, Ascends, signed-by}
-use Rattle.quorum.specs.Group.{stands, grouped, commits-fault, Stood, Fell, Groups}
+use Rattle.quorum.specs.Group.{stands, grouped, surplus, list-fault, exactly, commits-fault, Stood, Fell, Whole, Groups, Proved, Commits-prove}
+use Rattle.quorum.specs.Records.{none, signer-of}
 use Rattle.quorum.proofs.Counting.{signed-count}
 
 module _ {X : Type 0} (names : X → ℕ) (allows : X → Bool) (n : ℕ) where
@@ -114,6 +118,51 @@ module _ {X : Type 0} (names : X → ℕ) (allows : X → Bool) (n : ℕ) where
       let s = stood q place 0 xs p e in
       omega (arith, s .enough, length-take q xs, signed-count names n 0 (take q xs) (s .ascends))
 
+module _ {X : Type 0} (names : X → ℕ) (allows : X → Bool) (n q : ℕ) (xs : List X) where
+  pub whole : list-fault names allows n q xs ≡ None → Whole names allows n q xs
+  whole e = go (grouped names allows n q 0 0 xs) refl e
+    where
+      go : (r : Result ℕ ℕ) → grouped names allows n q 0 0 xs ≡ r → surplus (length xs) r ≡ None → Whole names allows n q xs
+      go (Err i) g f = let z : _≡_ {A = ℕ} 0 1 = cc in absurd (omega arith)
+      go (Ok p) g f = fits (cases-lt p (length xs))
+        where
+          fits : (p < length xs) ⊎ (length xs ≤ p) → Whole names allows n q xs
+          fits (inl h) =
+              let s : Some p ≡ None = sym (cond-true (ltb p (length xs)) (Some p) None (lt-ltb p (length xs) h)) ∙ f in
+              let z : _≡_ {A = ℕ} 0 1 = cc in
+              absurd (omega arith)
+          fits (inr h) =
+              let s = stood names allows n q 0 0 xs p g in
+              let all : take q xs ≡ xs = take-all q xs (omega (arith, s .after)) in
+              record {
+                long = omega (arith, s .after, s .enough);
+                ascends = subst (Ascends names n 0) all (s .ascends);
+                counted = subst (λ ys. q ≤ count (signed-by names ys) n) all (counted names allows n q 0 xs p g);
+                passes = subst (All (λ x. allows x ≡ true)) all (s .passes);
+              }
+
+  pub index : (i : ℕ) → list-fault names allows n q xs ≡ Some i → (i ≤ q) × (i ≤ length xs)
+  index i e = go (grouped names allows n q 0 0 xs) refl e
+    where
+      go : (r : Result ℕ ℕ) → grouped names allows n q 0 0 xs ≡ r → surplus (length xs) r ≡ Some i → (i ≤ q) × (i ≤ length xs)
+      go (Err j) g f =
+          let same : j ≡ i = cc in
+          let r = fell names allows n q 0 0 xs j g in
+          (omega (arith, r .short), omega (arith, r .within))
+      go (Ok p) g f =
+          let s = stood names allows n q 0 0 xs p g in
+          fits (cases-lt p (length xs)) (s .after)
+        where
+          fits : (p < length xs) ⊎ (length xs ≤ p) → p ≡ 0 + q → (i ≤ q) × (i ≤ length xs)
+          fits (inl h) after =
+              let s : Some p ≡ Some i = sym (cond-true (ltb p (length xs)) (Some p) None (lt-ltb p (length xs) h)) ∙ f in
+              let same : p ≡ i = cc in
+              (omega arith, omega arith)
+          fits (inr h) after =
+              let s : None ≡ Some i = sym (cond-false (ltb p (length xs)) (Some p) None (le-ltb p (length xs) h)) ∙ f in
+              let z : _≡_ {A = ℕ} 0 1 = cc in
+              absurd (omega arith)
+
 leb-step : (a b : ℕ) → leb (suc a) (suc b) ≡ leb a b
 leb-step a b = grind (arith, tells)
 
@@ -135,8 +184,26 @@ groups names allows =
       stood = λ n. stood names allows n;
       fell = λ n. fell names allows n;
       counted = λ n. counted names allows n;
+      whole = λ n. whole names allows n;
+      index = λ n. index names allows n;
       ascending = λ n q. rises names n q 0 0;
     }
+
+pub commits-prove : Commits-prove
+commits-prove accepts n q number rs e = go (cases-eq (getD rs 0 none .statement .epoch) 0)
+  where
+    go : (getD rs 0 none .statement .epoch ≡ 0) ⊎ (getD rs 0 none .statement .epoch ≡ 0 → ⊥) → Proved accepts n q number rs
+    go (inl h) =
+        let st = getD rs 0 none .statement in
+        let rule = exactly accepts 4 (st .epoch) number (st .digest) in
+        let s : _≡_ {A = Option ℕ} (Some 0) None = sym (cond-true (eqb (st .epoch) 0) (Some 0) (list-fault signer-of rule n q rs) (eq-eqb (st .epoch) 0 h)) ∙ e in
+        let z : _≡_ {A = ℕ} 0 1 = cc in
+        absurd (omega arith)
+    go (inr h) =
+        let st = getD rs 0 none .statement in
+        let rule = exactly accepts 4 (st .epoch) number (st .digest) in
+        let f : list-fault signer-of rule n q rs ≡ None = sym (cond-false (eqb (st .epoch) 0) (Some 0) (list-fault signer-of rule n q rs) (ne-eqb (st .epoch) 0 h)) ∙ e in
+        record { epoch = st .epoch; digest = st .digest; begun = omega arith; commits = whole signer-of rule n q rs f }
 
 pub commits-none : (accepts : Statement → ℕ → Bool) (n q number : ℕ) (rs : List Sealed) → length rs ≡ 0 → Some 0 ≡ commits-fault accepts n q number rs
 commits-none accepts n q number [] h = refl

@@ -69,6 +69,13 @@ pub record Fell {X : Type 0} (names : X → ℕ) (allows : X → Bool) (n k plac
   pub before : grouped names allows n (fault - place) place least xs ≡ Ok fault
   pub here : grouped names allows n (fault - place + 1) place least xs ≡ Err fault
 
+-- what a list shows that is one group: q records, by so many different controllers below n, and each keeps the rule
+pub record Whole {X : Type 0} (names : X → ℕ) (allows : X → Bool) (n q : ℕ) (xs : List X) : Type 0 where
+  pub long : length xs ≡ q
+  pub ascends : Ascends names n 0 xs
+  pub counted : q ≤ count (signed-by names xs) n
+  pub passes : All (λ x. allows x ≡ true) xs
+
 -- what the check is for, of any records and rule
 pub record Groups {X : Type 0} (names : X → ℕ) (allows : X → Bool) : Type 0 where
   -- a group that comes through
@@ -77,5 +84,21 @@ pub record Groups {X : Type 0} (names : X → ℕ) (allows : X → Bool) : Type 
   pub fell : (n k place least : ℕ) (xs : List X) (fault : ℕ) → grouped names allows n k place least xs ≡ Err fault → Fell names allows n k place least xs fault
   -- the signers of a group are q different controllers
   pub counted : (n q place : ℕ) (xs : List X) (next : ℕ) → grouped names allows n q place 0 xs ≡ Ok next → q ≤ count (signed-by names (take q xs)) n
+  -- a list with no fault
+  pub whole : (n q : ℕ) (xs : List X) → list-fault names allows n q xs ≡ None → Whole names allows n q xs
+  -- a list with one: the index is at most the right length, and the length that it has
+  pub index : (n q : ℕ) (xs : List X) (i : ℕ) → list-fault names allows n q xs ≡ Some i → (i ≤ q) × (i ≤ length xs)
   -- of a list by ascending signers the length alone decides
   pub ascending : (n q : ℕ) (xs : List X) → Ascends names n 0 xs → quorum-held names n q xs ≡ leb q (length xs)
+
+-- what a list that proves a number shows: q controllers committed one digest there, in one epoch
+pub record Proved (accepts : Statement → ℕ → Bool) (n q number : ℕ) (rs : List Sealed) : Type 0 where
+  pub epoch : ℕ
+  pub digest : DigestValue
+  pub begun : 0 < epoch
+  pub commits : Whole signer-of (exactly accepts 4 epoch number digest) n q rs
+
+abbrev pub Commits-prove : Type 0
+Commits-prove =
+    (accepts : Statement → ℕ → Bool) (n q number : ℕ) (rs : List Sealed)
+    → commits-fault accepts n q number rs ≡ None → Proved accepts n q number rs

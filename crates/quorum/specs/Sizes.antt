@@ -1,9 +1,9 @@
 -- How many controllers a house may have, how many of them may lie, and how many are a quorum.
 -- Only this file has the formulas: all else rests on the record Sizes.
 use mathlib.Core.Path.{_≡_}
-use mathlib.Core.Bool.{Bool, true, _||_}
+use mathlib.Core.Bool.{Bool, true, not, _||_}
 use Prim.Native.Nat.{ℕ, _+_, _-_, _*_, _/_, _≤_, _<_}
-use lib.Dec.{eqb}
+use lib.Dec.{eqb, leb}
 
 -- the sizes that a house may have
 unfoldable pub allowed : ℕ → Bool
@@ -16,6 +16,10 @@ faults n = (n - 1) / 3
 -- so many different controllers are a quorum
 unfoldable pub quorum : ℕ → ℕ
 quorum n = 2 * ((n - 1) / 3) + 1
+
+-- no house has n controllers, or it has none with that number
+abbrev pub no-house : ℕ → ℕ → Bool
+no-house n own = not (allowed n) || leb n own
 
 -- what counting rests on
 pub record Sizes (n : ℕ) : Type 0 where

@@ -1,10 +1,9 @@
 // A house: how many controllers it has, and which of them this one is.
 ghost use mathlib.Core.Path.{_≡_};
-ghost use mathlib.Core.Bool.{true, false, not, _||_};
+ghost use mathlib.Core.Bool.{true, false};
 ghost use Prim.Native.Nat.{_<_, _≤_};
-ghost use lib.Dec.{leb};
 ghost use Rattle.std.specs.Results.{Cases};
-ghost use Rattle.quorum.specs.Sizes.{allowed, faults, quorum, Sizes};
+ghost use Rattle.quorum.specs.Sizes.{allowed, faults, quorum, no-house, Sizes};
 
 #[derive(Clone, Copy)]
 pub struct House {
@@ -34,7 +33,7 @@ fn is_allowed(n: u8) -> bool
 impl House {
     // Refused exactly where the size is not allowed or the number is not below it.
     pub fn new(n: u8, own: u8) -> Result<House, BadHouse>
-        ensures { λ r. ⌜ Cases r (λ h. (not (allowed n) || leb n own ≡ false) × (h .n ≡ n) × (h .own ≡ own)) (λ e. (not (allowed n) || leb n own ≡ true) × (e .n ≡ n) × (e .own ≡ own)) ⌝ }
+        ensures { λ r. ⌜ Cases r (λ h. (no-house n own ≡ false) × (h .n ≡ n) × (h .own ≡ own)) (λ e. (no-house n own ≡ true) × (e .n ≡ n) × (e .own ≡ own)) ⌝ }
     {
         if !is_allowed(n) || own >= n {
             return Err(BadHouse { n, own });
