@@ -1,4 +1,2 @@
 pub mod Allowed
 pub mod Counting
-pub mod Groups
-pub mod Rolls

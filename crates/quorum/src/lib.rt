@@ -1,8 +1,3 @@
-// Sizes of a house, quorums, and the one check of records by ascending signers.
-pub mod checker;
-pub mod group;
+// A house's size and its quorums: any two of them share an honest controller.
 pub mod house;
 pub mod laws;
-pub mod roll;
-pub mod rules;
-pub mod signed;
