@@ -5,7 +5,6 @@ ghost use Prim.Native.Nat.{ℕ, _≤_};
 ghost use lib.ListN.{take, drop};
 ghost use Rattle.group.specs.Group.{grouped, list-fault, quorum-held, commits-fault};
 ghost use Rattle.quorum.specs.Sets.{count, signed-by};
-use seal::checker::SealChecker;
 use crate::rules::AnyMark;
 use crate::rules::AnyMarkRule;
 use crate::rules::Exact;
@@ -13,6 +12,7 @@ use crate::rules::ExactRule;
 use crate::rules::Rule;
 use crate::signed::SealedSigned;
 use crate::signed::Signed;
+use seal::checker::SealChecker;
 use wire::kinds::COMMIT;
 use wire::records::Sealed;
 

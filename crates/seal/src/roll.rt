@@ -30,7 +30,7 @@ fn is_entry(entry: &Sealed, st: &Statement, seal: u64) -> bool
     entry.seal == seal && is_same(&entry.statement, st)
 }
 
-// Whether one of the entries is that statement under that seal. The only search of a roll.
+// Whether one of the entries is that statement under that seal. The only look into a roll.
 fn contains(entries: &[Sealed], st: &Statement, seal: u64) -> bool
     ensures { λ r. ⌜ r ≡ listed (now (entries .entry)) (now (st .entry)) seal ⌝ }
 {
