@@ -48,7 +48,7 @@ exactly accepts kind epoch number digest r =
     eqb (st .kind) kind && (eqb (st .epoch) epoch && (eqb (st .number) number && (eqb (st .held) 0
     && (same-digest (st .digest) digest && accepts st (r .seal)))))
 
--- a list that proves a number: q commits of it, of one epoch from 1 up and one digest, which the first sets
+-- a list that proves a number: q commits (kind 4) of it, of one epoch from 1 up and one digest, which the first sets
 abbrev pub commits-fault : (Statement → ℕ → Bool) → ℕ → ℕ → ℕ → List Sealed → Option ℕ
 commits-fault accepts n q number rs =
     let st = getD rs 0 none .statement in

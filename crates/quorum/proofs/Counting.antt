@@ -67,7 +67,7 @@ quorums-meet n liar a b h few ha hb =
     let honest : ℕ → Bool = λ i. not (liar i) in
     let lies : count (λ i. not (honest i)) n ≤ faults n = omega (arith, count-not liar n, count-not honest n) in
     let w = meet n (faults n) (quorum n) honest (trusty n honest h lies) _ _ (of-set a ha) (of-set b hb) in
-    record { who = w .who; below = w .below; left = w .left; right = w .right; true-to = not-true (liar (w .who)) (w .is-honest) }
+    record { who = w .who; below = w .below; left = w .left; right = w .right; truthful = not-true (liar (w .who)) (w .is-honest) }
 
 pub quorum-honest : Quorum-honest
 quorum-honest n liar a h few ha =

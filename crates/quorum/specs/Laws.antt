@@ -19,7 +19,7 @@ pub record Witness (n : ℕ) (liar a b : ℕ → Bool) : Type 0 where
   pub below : who < n
   pub left : a who ≡ true
   pub right : b who ≡ true
-  pub true-to : liar who ≡ false
+  pub truthful : liar who ≡ false
 
 -- so with at most f liars one of those does not lie
 abbrev pub Quorums-meet : Type 0

@@ -15,7 +15,7 @@ faults n = (n - 1) / 3
 
 -- so many different controllers are a quorum
 unfoldable pub quorum : ℕ → ℕ
-quorum n = 2 * ((n - 1) / 3) + 1
+quorum n = 2 * faults n + 1
 
 -- no house has n controllers, or it has none with that number
 abbrev pub no-house : ℕ → ℕ → Bool

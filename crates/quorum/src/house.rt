@@ -5,6 +5,8 @@ ghost use Prim.Native.Nat.{_<_, _≤_};
 ghost use Rattle.std.specs.Results.{Cases};
 ghost use Rattle.quorum.specs.Sizes.{allowed, faults, quorum, no-house, Sizes};
 
+// That n is at most 16 follows from its being allowed; it stands here so that whoever holds a house
+// knows it.
 #[derive(Clone, Copy)]
 pub struct House {
     n: u8,

@@ -9,47 +9,11 @@ use lib.ListN.{length, getD, drop}
 use lib.Dec.{eqb}
 use Rattle.std.proofs.shelf.Lists.{at-drop-more, at-drop-all}
 use Rattle.std.proofs.shelf.Tests.{and-parts, and-from, or-left, or-right, or-cases, eqb-true, eq-eqb, false≢true}
-use Rattle.wire.specs.declared.records.DigestValue.{DigestValue}
 use Rattle.wire.specs.declared.records.Statement.{Statement}
 use Rattle.wire.specs.declared.records.Sealed.{Sealed}
-use Rattle.seal.specs.Records.{same-digest, same-statement, none}
+use Rattle.seal.specs.Records.{same-statement, none}
+use Rattle.seal.proofs.Sameness.{same-statement-is, same-statement-self}
 use Rattle.seal.specs.Roll.{matches, listed, Member, Membership}
-
--- equal digests are one digest
-pub same-digest-is : (a b : DigestValue) → same-digest a b ≡ true → a ≡ b
-unfolding same-digest
-same-digest-is a b h = λ i. record { word = eqb-true (a .word) (b .word) h i }
-
-pub same-digest-self : (a : DigestValue) → same-digest a a ≡ true
-unfolding same-digest
-same-digest-self a = eq-eqb (a .word) (a .word) refl
-
-pub same-statement-is : (a b : Statement) → same-statement a b ≡ true → a ≡ b
-same-statement-is a b h =
-    let h1 = and-parts (eqb (a .kind) (b .kind)) _ h in
-    let h2 = and-parts (eqb (a .signer) (b .signer)) _ (h1 .1) in
-    let h3 = and-parts (eqb (a .epoch) (b .epoch)) _ (h2 .1) in
-    let h4 = and-parts (eqb (a .number) (b .number)) _ (h3 .1) in
-    let h5 = and-parts (eqb (a .held) (b .held)) (same-digest (a .digest) (b .digest)) (h4 .1) in
-    λ i. record {
-      kind = eqb-true (a .kind) (b .kind) (h1 .0) i;
-      signer = eqb-true (a .signer) (b .signer) (h2 .0) i;
-      epoch = eqb-true (a .epoch) (b .epoch) (h3 .0) i;
-      number = eqb-true (a .number) (b .number) (h4 .0) i;
-      held = eqb-true (a .held) (b .held) (h5 .0) i;
-      digest = same-digest-is (a .digest) (b .digest) (h5 .1) i;
-    }
-
-eqb-self : (x : ℕ) → eqb x x ≡ true
-eqb-self x = eq-eqb x x refl
-
-pub same-statement-self : (a : Statement) → same-statement a a ≡ true
-same-statement-self a =
-    and-from (eqb (a .kind) (a .kind)) _ (eqb-self (a .kind))
-    (and-from (eqb (a .signer) (a .signer)) _ (eqb-self (a .signer))
-    (and-from (eqb (a .epoch) (a .epoch)) _ (eqb-self (a .epoch))
-    (and-from (eqb (a .number) (a .number)) _ (eqb-self (a .number))
-    (and-from (eqb (a .held) (a .held)) _ (eqb-self (a .held)) (same-digest-self (a .digest))))))
 
 module _ (st : Statement) (seal : ℕ) where
   pub listed-more : (xs : List Sealed) (i : ℕ) (d : Sealed) → i < length xs → matches (getD xs i d) st seal ≡ false → listed (drop (i + 1) xs) st seal ≡ listed (drop i xs) st seal
@@ -70,7 +34,7 @@ module _ (st : Statement) (seal : ℕ) where
 
   matches-from : (x : Sealed) → x ≡ record { statement = st; seal = seal } → matches x st seal ≡ true
   matches-from x e =
-      ap (λ (y : Sealed). matches y st seal) e ∙ and-from (eqb seal seal) (same-statement st st) (eqb-self seal) (same-statement-self st)
+      ap (λ (y : Sealed). matches y st seal) e ∙ and-from (eqb seal seal) (same-statement st st) (eq-eqb seal seal refl) (same-statement-self st)
 
   stands-there : (xs : List Sealed) → listed xs st seal ≡ true → Member xs (record { statement = st; seal = seal })
   stands-there [] e = absurd (false≢true e)
