@@ -1,0 +1,5 @@
+use Rattle.quorum.proofs.Allowed.{sizes}
+use Rattle.quorum.proofs.laws.sizes_hold.Needs as need
+
+pub returns : need.returns
+returns c = sizes

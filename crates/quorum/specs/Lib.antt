@@ -1,0 +1,4 @@
+pub mod Sizes
+pub mod Cases
+pub mod Sets
+pub mod Laws

@@ -1,0 +1,5 @@
+// Whether a seal is genuine: what a checker is, and the roll.
+pub mod checker;
+pub mod digests;
+pub mod laws;
+pub mod roll;
