@@ -15,7 +15,8 @@ use Rattle.wire.specs.declared.records.DigestValue.{DigestValue}
 use Rattle.wire.specs.declared.records.Statement.{Statement}
 use Rattle.wire.specs.declared.records.Sealed.{Sealed}
 use Rattle.quorum.specs.Sets.{count, Ascends, signed-by}
-use Rattle.seal.specs.Records.{same-digest, none, signer-of}
+use Rattle.wire.specs.Values.{same-digest}
+use Rattle.seal.specs.Records.{none, signer-of}
 
 module _ {X : Type 0} (names : X → ℕ) (allows : X → Bool) (n : ℕ) where
   -- its signer is not below the least that may follow and is below n, and it keeps the rule

@@ -4,7 +4,6 @@ ghost use mathlib.Core.Bool.{Bool, true};
 ghost use denote.Ref.{now};
 ghost use Rattle.group.specs.Group.{exactly};
 use seal::checker::SealChecker;
-use seal::digests::same_digest;
 use wire::records::DigestValue;
 use wire::records::Sealed;
 
@@ -55,7 +54,7 @@ pub impl<'a, C: SealChecker> Rule<Sealed> for Exact<'a, C> as ExactRule {
         if st.held != 0 {
             return false;
         }
-        if !same_digest(&st.digest, &self.digest) {
+        if !st.digest.equals(&self.digest) {
             return false;
         }
         self.checker.genuine(&st, x.seal)

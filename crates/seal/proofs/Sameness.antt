@@ -6,7 +6,8 @@ use lib.Dec.{eqb}
 use Rattle.std.proofs.shelf.Tests.{and-parts, and-from, eqb-true, eq-eqb}
 use Rattle.wire.specs.declared.records.DigestValue.{DigestValue}
 use Rattle.wire.specs.declared.records.Statement.{Statement}
-use Rattle.seal.specs.Records.{same-digest, same-statement, Same}
+use Rattle.wire.specs.Values.{same-digest}
+use Rattle.seal.specs.Records.{same-statement, Same}
 
 -- equal digests are one digest
 pub same-digest-is : (a b : DigestValue) → same-digest a b ≡ true → a ≡ b

@@ -4,13 +4,10 @@ use mathlib.Core.Bool.{Bool, _&&_}
 use Prim.Native.Nat.{ℕ}
 use lib.Dec.{eqb}
 use Rattle.std.specs.Orderings.{Decides}
+use Rattle.wire.specs.Values.{same-digest}
 use Rattle.wire.specs.declared.records.DigestValue.{DigestValue}
 use Rattle.wire.specs.declared.records.Statement.{Statement}
 use Rattle.wire.specs.declared.records.Sealed.{Sealed}
-
--- two digests are the same where their words are
-unfoldable pub same-digest : DigestValue → DigestValue → Bool
-same-digest a b = eqb (a .word) (b .word)
 
 -- the same statement, field by field
 abbrev pub same-statement : Statement → Statement → Bool

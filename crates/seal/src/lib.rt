@@ -1,5 +1,4 @@
 // Whether a seal is genuine: what a checker is, and the roll.
 pub mod checker;
-pub mod digests;
 pub mod laws;
 pub mod roll;

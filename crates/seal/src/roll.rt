@@ -7,7 +7,6 @@ ghost use Rattle.std.specs.Of.Vec.{vec-items, vec-len};
 ghost use Rattle.seal.specs.Records.{same-statement};
 ghost use Rattle.seal.specs.Roll.{listed, matches};
 use crate::checker::SealChecker;
-use crate::digests::same_digest;
 use std::alloc::AllocError;
 use std::alloc::Global;
 use wire::records::Sealed;
@@ -21,7 +20,7 @@ fn is_same(a: &Statement, b: &Statement) -> bool
         && a.epoch == b.epoch
         && a.number == b.number
         && a.held == b.held
-        && same_digest(&a.digest, &b.digest)
+        && a.digest.equals(&b.digest)
 }
 
 fn is_entry(entry: &Sealed, st: &Statement, seal: u64) -> bool

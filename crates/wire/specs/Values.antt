@@ -13,7 +13,8 @@ value-of n = record { word = n }
 abbrev pub number-of : DigestValue → ℕ
 number-of d = d .word
 
-abbrev pub same-digest : DigestValue → DigestValue → Bool
+-- two digest values are the same where their words are
+unfoldable pub same-digest : DigestValue → DigestValue → Bool
 same-digest a b = eqb (a .word) (b .word)
 
 -- what a client says by a request: kind 1, the client as signer, the timestamp as number, the payload as digest
