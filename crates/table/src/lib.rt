@@ -1,0 +1,3 @@
+// What a controller keeps of the numbers that it works on: votes, places, certificates, checkpoints.
+pub mod ballots;
+pub mod records;
