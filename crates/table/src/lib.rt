@@ -1,3 +1,4 @@
 // What a controller keeps of the numbers that it works on: votes, places, certificates, checkpoints.
 pub mod ballots;
+pub mod places;
 pub mod records;

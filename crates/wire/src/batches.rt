@@ -1,9 +1,9 @@
 // A batch in its record and in its buffer, as slices.
 ghost use mathlib.Core.Path.{_≡_};
-ghost use mathlib.Core.List.{_++_};
+ghost use mathlib.Core.List.{[], _++_};
 ghost use Prim.Native.Nat.{_≤_, min};
 ghost use lib.ListN.{length, take, drop};
-ghost use Rattle.wire.specs.Frames.{requests-of, store-batch, frame-bytes, body-bytes};
+ghost use Rattle.wire.specs.Frames.{stored, requests-of, store-batch, frame-bytes, body-bytes};
 use crate::faults::WriteFault;
 use crate::frame::BatchFrame;
 use crate::reading::NO_REQUEST;
@@ -19,6 +19,16 @@ fn place_first(places: &mut [Request], requests: &[Request])
 }
 
 impl Batch {
+    // The empty batch.
+    pub fn new() -> Batch
+        ensures { λ r. ⌜ r ≡ stored [] ⌝ }
+    {
+        Batch {
+            count: 0,
+            requests: [NO_REQUEST; 16],
+        }
+    }
+
     // The batch of these requests; more than 16 are refused.
     pub fn from_slice(requests: &[Request]) -> Result<Batch, WriteFault>
         ensures { λ r. ⌜ r ≡ store-batch (now (requests .entry)) ⌝ }
