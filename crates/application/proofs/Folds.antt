@@ -20,3 +20,7 @@ folded-joined-more f g a xs i d h =
     ap (λ l. folded f a (joined g l)) (take-more xs i d h)
     ∙ (ap (folded f a) (joined-append g (take i xs) (getD xs i d ∷ []) ∙ ap (λ l. joined g (take i xs) ++ l) (append-nil (g (getD xs i d))))
     ∙ folded-append f a (joined g (take i xs)) (g (getD xs i d)))
+
+-- three rows after one another
+pub folded-three : {A B : Type 0} (f : B → A → B) (a : B) (xs ys zs : List A) → folded f (folded f (folded f a xs) ys) zs ≡ folded f a (xs ++ (ys ++ zs))
+folded-three f a xs ys zs = sym (folded-append f a xs (ys ++ zs) ∙ folded-append f (folded f a xs) ys zs)

@@ -1,8 +1,9 @@
 // What a client can ask of the valves.
 ghost use mathlib.Core.Path.{_≡_};
+ghost use Rattle.std.specs.declared.option.Option.the-variants.{Some};
 ghost use Rattle.valves.specs.Orders.{order-of, payload-of};
 
-#[derive(Clone, Copy, PartialEq, Eq, Debug)]
+#[derive(Clone, Copy)]
 pub enum ValveOrder {
     // the client pays the change of the opening to the plant
     Open { valve: u8, opening: u16 },
@@ -29,7 +30,8 @@ pub fn order_of(payload: u64) -> Option<ValveOrder>
 
 // The payload of an order.
 pub fn payload_of(order: ValveOrder) -> u64
-    ensures { λ r. ⌜ r ≡ payload-of order ⌝ }
+    ensures value { λ r. ⌜ r ≡ payload-of order ⌝ }
+    ensures read { λ r. ⌜ order-of r ≡ Some order ⌝ }
 {
     match order {
         ValveOrder::Open { valve, opening } => {

@@ -1,0 +1,17 @@
+-- What holds of the valves whatever the orders are.
+use mathlib.Core.Path.{_≡_}
+use Prim.Native.Nat.{ℕ, _+_}
+use Rattle.std.specs.shelf.Lists.{sum}
+use Rattle.application.specs.Codes.{done}
+use Rattle.valves.specs.declared.station.Valves.{Valves}
+use Rattle.valves.specs.Valves.{after, answer}
+
+-- the accounts and the plant add to 320,000 after any order of any client
+abbrev pub Whole : Type 0
+Whole = (v : Valves) (client timestamp payload : ℕ) →
+    sum (after v client timestamp payload .book .accounts) + after v client timestamp payload .book .plant ≡ 320000
+
+-- an order that is not done changes nothing
+abbrev pub Unchanged : Type 0
+Unchanged = (v : Valves) (client timestamp payload : ℕ) →
+    (answer v client timestamp payload ≡ done → ⊥) → after v client timestamp payload ≡ v

@@ -1,0 +1,11 @@
+// What is proved of the valves besides what each call answers.
+ghost use Rattle.valves.specs.Cases.{Opened-twice};
+ghost use Rattle.valves.specs.Laws.{Unchanged, Whole};
+
+pub fn laws_hold() -> u8
+    ensures whole { λ _. ⌜ Whole ⌝ }
+    ensures unchanged { λ _. ⌜ Unchanged ⌝ }
+    ensures case { λ _. ⌜ Opened-twice ⌝ }
+{
+    0
+}
