@@ -1,7 +1,7 @@
 // The valves: clients pay to open them, and each other.
 mod carry_out;
 mod marking;
-pub mod book;
+mod book;
 pub mod laws;
 pub mod operate;
 pub mod order;
