@@ -57,3 +57,6 @@ bytes-back a b d e f g h k ha hb hd he hf hg hh hk =
     let t5 : n / 2 ^ 16 % 256 ≡ g = ap (λ m. m % 256) n2 ∙ c2 .1 in
     let t6 : n / 256 % 256 ≡ h = ap (λ m. m % 256) n1 ∙ c1 .1 in
     λ z. record { b0 = t0 z; b1 = t1 z; b2 = t2 z; b3 = t3 z; b4 = t4 z; b5 = t5 z; b6 = t6 z; b7 = c0 .1 z }
+
+pub byte : (n : ℕ) → n % 256 < 256
+byte n = omega arith

@@ -6,7 +6,7 @@ use native.Mathlib.Nat.{ℕ-set}
 use Prim.Native.Nat.{ℕ, _+_, _≤_}
 use lib.ListN.{length, getD}
 use Rattle.std.specs.shelf.Lists.{sum}
-use Rattle.valves.specs.declared.station.Valves.{Valves}
+use Rattle.valves.specs.declared.state.Valves.{Valves}
 
 pub same-valves : (v w : Valves) → v .book ≡ w .book → v ≡ w
 same-valves v w e = λ i. record {

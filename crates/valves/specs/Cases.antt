@@ -4,7 +4,7 @@ use Prim.Native.Nat.{ℕ}
 use Rattle.std.specs.declared.option.Option.the-variants.{Some}
 use Rattle.application.specs.Codes.{done}
 use Rattle.valves.specs.declared.order.ValveOrder.the-variants.{Open}
-use Rattle.valves.specs.declared.station.Valves.{Valves}
+use Rattle.valves.specs.declared.state.Valves.{Valves}
 use Rattle.valves.specs.Orders.{payload-of}
 use Rattle.valves.specs.Valves.{new-valves, after, answer, account-at, opening-at}
 

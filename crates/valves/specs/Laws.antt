@@ -3,7 +3,7 @@ use mathlib.Core.Path.{_≡_}
 use Prim.Native.Nat.{ℕ, _+_}
 use Rattle.std.specs.shelf.Lists.{sum}
 use Rattle.application.specs.Codes.{done}
-use Rattle.valves.specs.declared.station.Valves.{Valves}
+use Rattle.valves.specs.declared.state.Valves.{Valves}
 use Rattle.valves.specs.Valves.{after, answer}
 
 -- the accounts and the plant add to 320,000 after any order of any client

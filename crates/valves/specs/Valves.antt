@@ -9,7 +9,7 @@ use Rattle.std.specs.declared.option.Option.the-variants.{Some, None}
 use Rattle.application.proofs.Each.{each-replicate}
 use Rattle.digest.specs.Fnv.{fnv1a}
 use Rattle.valves.specs.declared.book.Book.{Book}
-use Rattle.valves.specs.declared.station.Valves.{Valves}
+use Rattle.valves.specs.declared.state.Valves.{Valves}
 use Rattle.valves.specs.Book.{code-of, carried-out}
 use Rattle.valves.specs.Keeps.{Sound, keeps}
 use Rattle.valves.specs.Mark.{book-bytes}

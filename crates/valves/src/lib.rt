@@ -5,4 +5,4 @@ mod book;
 pub mod laws;
 pub mod operate;
 pub mod order;
-pub mod station;
+pub mod state;

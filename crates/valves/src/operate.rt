@@ -3,7 +3,7 @@ ghost use mathlib.Core.Path.{_≡_};
 ghost use Rattle.valves.specs.Valves.{new-valves, after, answer, mark-of, account-at, opening-at};
 use crate::book::Book;
 use crate::order::order_of;
-use crate::station::Valves;
+use crate::state::Valves;
 use application::interface::Application;
 
 impl Valves {

@@ -1,7 +1,7 @@
 use mathlib.Core.Path.{refl}
 use Rattle.valves.specs.Valves.{new-valves}
 use Rattle.valves.proofs.Same.{same-valves}
-use Rattle.valves.proofs.station.Valves.new.Needs as need
+use Rattle.valves.proofs.state.Valves.new.Needs as need
 
 pub ghost-result : need.ghost-result
 ghost-result c = (new-valves .long, (new-valves .whole, (new-valves .within, tt)))
