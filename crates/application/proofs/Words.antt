@@ -4,16 +4,11 @@ use Prim.Native.Nat.{ℕ, _+_, _*_, _/_, _%_, _^_, _<_}
 use native.Mathlib.Nat.{div-div-eq-div-mul, mod-eq-of-lt}
 use native.Mathlib.Omega.{arith}
 use Rattle.std.proofs.shelf.Bits.{div-below}
-use Rattle.application.specs.Payload.{Bytes, bytes-of, payload-of-bytes, two, four}
+use Rattle.application.specs.Payload.{Bytes, bytes-of, payload-of-bytes, four}
 
 -- one byte more to the right
 step-back : (n k : ℕ) → n / k / 256 ≡ n / (k * 256)
 step-back n k = div-div-eq-div-mul n k 256
-
-pub two-back : (n : ℕ) → n < 2 ^ 16 → two (n / 256 % 256) (n % 256) ≡ n
-two-back n h =
-    let top : n / 256 < 256 = div-below n 256 256 (omega arith) (omega arith) in
-    omega (arith, mod-eq-of-lt top)
 
 pub four-back : (n : ℕ) → n < 2 ^ 32 → four (n / 2 ^ 24 % 256) (n / 2 ^ 16 % 256) (n / 256 % 256) (n % 256) ≡ n
 four-back n h =

@@ -2,6 +2,9 @@
 ghost use mathlib.Core.Path.{_≡_};
 ghost use Prim.Native.Nat.{ℕ};
 
+// Clients are numbered from 0 up to this.
+pub const LAST_CLIENT: u8 = 31;
+
 pub trait Application {
     // the state after an order of (client, timestamp, payload)
     ghost next: { Self → ℕ → ℕ → ℕ → Self };

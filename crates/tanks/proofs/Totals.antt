@@ -12,7 +12,7 @@ use Rattle.std.specs.declared.option.Option.the-variants.{Some}
 use Rattle.std.proofs.shelf.Sums.{sumBy-set}
 use Rattle.std.proofs.shelf.Tests.{cond-both, eqb-true, eqb-false, ltb-false, or-parts}
 use Rattle.tanks.specs.declared.tank.Tank.{Tank}
-use Rattle.tanks.specs.declared.tank.Farm.{Farm}
+use Rattle.tanks.specs.declared.farm.Farm.{Farm}
 use Rattle.tanks.specs.declared.order.TankOrder.the-variants.{Move}
 use Rattle.tanks.specs.Farm.{no-tank, tank-in, with-litres, code-of-move, moved, carried-out}
 use Rattle.tanks.specs.Laws.{total}

@@ -13,6 +13,6 @@ worked =
     after (after (after new-tanks 1 1 (payload-of (SetLitres 3 1000))) 1 2 (payload-of (Move 3 5 400))) 1 3 (payload-of (SetPoint 5 (negsuc 499)))
 
 pub record Filled-and-moved : Type 0 where
-  pub source : tank-at (worked .farm) 3 ≡ Some (record { litres = 600; «set_point» = pos 2000 })
-  pub target : tank-at (worked .farm) 5 ≡ Some (record { litres = 400; «set_point» = negsuc 499 })
+  pub source : tank-at worked 3 ≡ Some (record { litres = 600; «set_point» = pos 2000 })
+  pub target : tank-at worked 5 ≡ Some (record { litres = 400; «set_point» = negsuc 499 })
   pub refused : answer worked 1 4 (payload-of (Move 3 5 601)) ≡ bad-amount

@@ -9,7 +9,7 @@ use Rattle.std.specs.declared.option.Option.{Option}
 use Rattle.std.specs.declared.option.Option.the-variants.{Some, None}
 use Rattle.application.specs.Codes.{done, unknown, bad-place, bad-value, bad-amount}
 use Rattle.tanks.specs.declared.tank.Tank.{Tank}
-use Rattle.tanks.specs.declared.tank.Farm.{Farm}
+use Rattle.tanks.specs.declared.farm.Farm.{Farm}
 use Rattle.tanks.specs.declared.order.TankOrder.{TankOrder}
 use Rattle.tanks.specs.declared.order.TankOrder.the-variants.{SetPoint, SetLitres, Move}
 

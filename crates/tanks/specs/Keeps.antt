@@ -11,7 +11,7 @@ use Rattle.std.specs.declared.option.Option.the-variants.{Some, None}
 use Rattle.std.proofs.shelf.Tests.{cond-both, eqb-true, ltb-false, or-parts}
 use Rattle.application.proofs.Each.{each-set}
 use Rattle.tanks.specs.declared.tank.Tank.{Tank}
-use Rattle.tanks.specs.declared.tank.Farm.{Farm}
+use Rattle.tanks.specs.declared.farm.Farm.{Farm}
 use Rattle.tanks.specs.declared.order.TankOrder.{TankOrder}
 use Rattle.tanks.specs.declared.order.TankOrder.the-variants.{SetPoint, SetLitres, Move}
 use Rattle.tanks.specs.Farm.{no-tank, tank-in, out-of-range, code-of-set-point, with-set-point, code-of-set-litres, with-litres, code-of-move, moved, carried-out}

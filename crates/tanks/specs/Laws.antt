@@ -7,7 +7,7 @@ use Rattle.std.specs.declared.option.Option.the-variants.{Some}
 use Rattle.application.specs.Codes.{done}
 use Rattle.tanks.specs.declared.order.TankOrder.the-variants.{Move}
 use Rattle.tanks.specs.declared.state.Tanks.{Tanks}
-use Rattle.tanks.specs.declared.tank.Farm.{Farm}
+use Rattle.tanks.specs.declared.farm.Farm.{Farm}
 use Rattle.tanks.specs.Farm.{tank-in, out-of-range}
 use Rattle.tanks.specs.Orders.{order-of}
 use Rattle.tanks.specs.Tanks.{after, answer}

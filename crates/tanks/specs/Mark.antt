@@ -4,7 +4,7 @@ use Prim.Native.Nat.{ℕ}
 use Rattle.std.specs.shelf.Lists.{joined}
 use Rattle.application.specs.Payload.{bytes2, bytes4}
 use Rattle.tanks.specs.declared.tank.Tank.{Tank}
-use Rattle.tanks.specs.declared.tank.Farm.{Farm}
+use Rattle.tanks.specs.declared.farm.Farm.{Farm}
 use Rattle.tanks.specs.Orders.{unsigned}
 
 abbrev pub tank-bytes : Tank → List ℕ

@@ -37,15 +37,34 @@ order-of payload = read-order (bytes-of payload)
 -- the bytes of an order
 abbrev pub bytes-in : TankOrder → Bytes
 bytes-in (SetPoint tank to) = record {
-  b0 = 1; b1 = tank; b2 = 0; b3 = 0; b4 = 0; b5 = 0; b6 = unsigned to / 256 % 256; b7 = unsigned to % 256;
+  b0 = 1;
+  b1 = tank;
+  b2 = 0;
+  b3 = 0;
+  b4 = 0;
+  b5 = 0;
+  b6 = unsigned to / 256 % 256;
+  b7 = unsigned to % 256;
 }
 bytes-in (SetLitres tank litres) = record {
-  b0 = 2; b1 = tank; b2 = 0; b3 = 0;
-  b4 = litres / 2 ^ 24 % 256; b5 = litres / 2 ^ 16 % 256; b6 = litres / 256 % 256; b7 = litres % 256;
+  b0 = 2;
+  b1 = tank;
+  b2 = 0;
+  b3 = 0;
+  b4 = litres / 2 ^ 24 % 256;
+  b5 = litres / 2 ^ 16 % 256;
+  b6 = litres / 256 % 256;
+  b7 = litres % 256;
 }
 bytes-in (Move from to litres) = record {
-  b0 = 3; b1 = from; b2 = to; b3 = 0;
-  b4 = litres / 2 ^ 24 % 256; b5 = litres / 2 ^ 16 % 256; b6 = litres / 256 % 256; b7 = litres % 256;
+  b0 = 3;
+  b1 = from;
+  b2 = to;
+  b3 = 0;
+  b4 = litres / 2 ^ 24 % 256;
+  b5 = litres / 2 ^ 16 % 256;
+  b6 = litres / 256 % 256;
+  b7 = litres % 256;
 }
 
 abbrev pub payload-of : TankOrder → ℕ

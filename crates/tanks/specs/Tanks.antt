@@ -11,7 +11,7 @@ use Rattle.application.proofs.Each.{each-replicate}
 use Rattle.digest.specs.Fnv.{fnv1a}
 use Rattle.tanks.specs.declared.state.Tanks.{Tanks}
 use Rattle.tanks.specs.declared.tank.Tank.{Tank}
-use Rattle.tanks.specs.declared.tank.Farm.{Farm}
+use Rattle.tanks.specs.declared.farm.Farm.{Farm}
 use Rattle.tanks.specs.Farm.{no-tank, tank-in, out-of-range, code-of, carried-out}
 use Rattle.tanks.specs.Keeps.{Sound, keeps}
 use Rattle.tanks.specs.Mark.{farm-bytes}
@@ -51,5 +51,5 @@ abbrev pub mark-of : Tanks → ℕ
 mark-of t = fnv1a (farm-bytes (t .farm))
 
 -- what can be read of the tanks
-abbrev pub tank-at : Farm → ℕ → Option Tank
-tank-at f tank = cond (ltb 63 tank) None (Some (tank-in f tank))
+abbrev pub tank-at : Tanks → ℕ → Option Tank
+tank-at t tank = cond (ltb 63 tank) None (Some (tank-in (t .farm) tank))

@@ -2,14 +2,20 @@
 ghost use mathlib.Core.Path.{_≡_};
 ghost use Prim.Native.Nat.{ℕ, _≤_};
 ghost use Rattle.tanks.specs.Farm.{tank-in, code-of, code-of-set-point, code-of-set-litres, code-of-move, with-set-point, with-litres, moved, carried-out, if-done};
+use crate::farm::Farm;
+use crate::farm::LAST_TANK;
 use crate::order::TankOrder;
-use crate::tank::Farm;
-use application::codes::{BAD_AMOUNT, BAD_PLACE, BAD_VALUE, DONE, UNKNOWN};
+use application::codes::BAD_AMOUNT;
+use application::codes::BAD_PLACE;
+use application::codes::BAD_VALUE;
+use application::codes::DONE;
+use application::codes::UNKNOWN;
+use application::interface::LAST_CLIENT;
 
-const LAST_CLIENT: u8 = 31;
-const LAST_TANK: u8 = 63;
 const CAPACITY: u32 = 100_000;
+
 const COLDEST: i16 = -500;
+
 const WARMEST: i16 = 3000;
 
 impl Farm {
@@ -67,9 +73,18 @@ impl Farm {
     {
         match order {
             None => UNKNOWN,
-            Some(TankOrder::SetPoint { tank, set_point }) => self.set_point(client, tank, set_point),
+            Some(TankOrder::SetPoint { tank, set_point }) => self.set_point(
+                client,
+                tank,
+                set_point,
+            ),
             Some(TankOrder::SetLitres { tank, litres }) => self.set_litres(client, tank, litres),
-            Some(TankOrder::Move { from, to, litres }) => self.move_litres(client, from, to, litres),
+            Some(TankOrder::Move { from, to, litres }) => self.move_litres(
+                client,
+                from,
+                to,
+                litres,
+            ),
         }
     }
 }

@@ -1,5 +1,6 @@
 // The tanks: clients set what they hold and how warm they are kept, and move litres between them.
 mod carry_out;
+mod farm;
 pub mod laws;
 mod marking;
 pub mod operate;

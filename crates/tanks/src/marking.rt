@@ -3,8 +3,10 @@ ghost use mathlib.Core.Path.{_≡_};
 ghost use Rattle.std.specs.shelf.Lists.{joined};
 ghost use Rattle.digest.specs.Fnv.{fnv-from, fnv1a};
 ghost use Rattle.tanks.specs.Mark.{tank-bytes, farm-bytes};
-use crate::tank::{Farm, Tank};
-use digest::fnv::{absorb_all, offset_basis};
+use crate::farm::Farm;
+use crate::tank::Tank;
+use digest::fnv::absorb_all;
+use digest::fnv::offset_basis;
 
 impl Tank {
     fn absorb(&self, hash: u64) -> u64

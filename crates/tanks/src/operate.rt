@@ -1,9 +1,11 @@
 // The tanks as an application.
 ghost use mathlib.Core.Path.{_≡_};
 ghost use Rattle.tanks.specs.Tanks.{new-tanks, after, answer, mark-of, tank-at};
+use crate::farm::Farm;
+use crate::farm::LAST_TANK;
 use crate::order::order_of;
 use crate::state::Tanks;
-use crate::tank::{Farm, Tank};
+use crate::tank::Tank;
 use application::interface::Application;
 
 impl Tanks {
@@ -15,17 +17,15 @@ impl Tanks {
             set_point: 2000,
         };
         Tanks {
-            farm: Farm {
-                tanks: [first; 64],
-            },
+            farm: Farm { tanks: [first; 64] },
         }
     }
 
     // What a tank holds, if there is such a tank.
     pub fn tank(&self, tank: u8) -> Option<Tank>
-        ensures { λ r. ⌜ r ≡ tank-at (now (self .entry) .farm) tank ⌝ }
+        ensures { λ r. ⌜ r ≡ tank-at (now (self .entry)) tank ⌝ }
     {
-        if tank > 63 {
+        if tank > LAST_TANK {
             return None;
         }
         Some(self.farm.tanks[tank as usize])

@@ -4,9 +4,9 @@ ghost use mathlib.Core.Bool.{false};
 ghost use Prim.Native.Nat.{ℕ, _≤_};
 ghost use lib.ListN.{length};
 ghost use Rattle.tanks.specs.Farm.{tank-in, out-of-range};
-use crate::tank::Farm;
+use crate::farm::Farm;
 
-#[derive(Clone, Copy)]
+#[derive(Drop)]
 pub struct Tanks {
     pub(crate) farm: Farm,
     ghost long: { length (farm .tanks) ≡ 64 },

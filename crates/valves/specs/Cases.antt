@@ -6,7 +6,7 @@ use Rattle.application.specs.Codes.{done}
 use Rattle.valves.specs.declared.order.ValveOrder.the-variants.{Open}
 use Rattle.valves.specs.declared.state.Valves.{Valves}
 use Rattle.valves.specs.Orders.{payload-of}
-use Rattle.valves.specs.Valves.{new-valves, after, answer, account-at, opening-at}
+use Rattle.valves.specs.Valves.{new-valves, after, answer, account-at, plant-of, opening-at}
 
 abbrev pub to-250 : Valves
 to-250 = after new-valves 2 1 (payload-of (Open 7 250))
@@ -17,6 +17,6 @@ to-100 = after to-250 2 2 (payload-of (Open 7 100))
 pub record Opened-twice : Type 0 where
   pub first : answer new-valves 2 1 (payload-of (Open 7 250)) ≡ done
   pub second : answer to-250 2 2 (payload-of (Open 7 100)) ≡ done
-  pub account : account-at (to-100 .book) 2 ≡ Some 9600
-  pub plant : to-100 .book .plant ≡ 400
-  pub opening : opening-at (to-100 .book) 7 ≡ Some 100
+  pub account : account-at to-100 2 ≡ Some 9600
+  pub plant : plant-of to-100 ≡ 400
+  pub opening : opening-at to-100 7 ≡ Some 100

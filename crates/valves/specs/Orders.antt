@@ -24,10 +24,24 @@ order-of payload = read-order (bytes-of payload)
 -- the bytes of an order
 abbrev pub bytes-in : ValveOrder → Bytes
 bytes-in (Open valve opening) = record {
-  b0 = 1; b1 = valve; b2 = 0; b3 = 0; b4 = 0; b5 = 0; b6 = opening / 256 % 256; b7 = opening % 256;
+  b0 = 1;
+  b1 = valve;
+  b2 = 0;
+  b3 = 0;
+  b4 = 0;
+  b5 = 0;
+  b6 = opening / 256 % 256;
+  b7 = opening % 256;
 }
 bytes-in (Pay to units) = record {
-  b0 = 2; b1 = to; b2 = 0; b3 = 0; b4 = units / 2 ^ 24 % 256; b5 = units / 2 ^ 16 % 256; b6 = units / 256 % 256; b7 = units % 256;
+  b0 = 2;
+  b1 = to;
+  b2 = 0;
+  b3 = 0;
+  b4 = units / 2 ^ 24 % 256;
+  b5 = units / 2 ^ 16 % 256;
+  b6 = units / 256 % 256;
+  b7 = units % 256;
 }
 
 abbrev pub payload-of : ValveOrder → ℕ

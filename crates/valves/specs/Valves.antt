@@ -42,8 +42,11 @@ abbrev pub mark-of : Valves → ℕ
 mark-of v = fnv1a (book-bytes (v .book))
 
 -- what can be read of the valves
-abbrev pub account-at : Book → ℕ → Option ℕ
-account-at b client = cond (ltb 31 client) None (Some (getD (b .accounts) client 0))
+abbrev pub account-at : Valves → ℕ → Option ℕ
+account-at v client = cond (ltb 31 client) None (Some (getD (v .book .accounts) client 0))
 
-abbrev pub opening-at : Book → ℕ → Option ℕ
-opening-at b valve = cond (ltb 63 valve) None (Some (getD (b .openings) valve 0))
+abbrev pub plant-of : Valves → ℕ
+plant-of v = v .book .plant
+
+abbrev pub opening-at : Valves → ℕ → Option ℕ
+opening-at v valve = cond (ltb 63 valve) None (Some (getD (v .book .openings) valve 0))

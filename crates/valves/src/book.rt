@@ -1,5 +1,7 @@
 // What the valves hold: the clients' accounts, the plant's account, and how far each valve is open.
-#[derive(Clone, Copy)]
+pub(crate) const LAST_VALVE: u8 = 63;
+
+#[derive(Drop)]
 pub struct Book {
     pub accounts: [u32; 32],
     pub plant: u32,

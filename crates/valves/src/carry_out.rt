@@ -4,11 +4,15 @@ ghost use Prim.Native.Nat.{_+_, _≤_};
 ghost use Rattle.std.specs.shelf.Lists.{sum};
 ghost use Rattle.valves.specs.Book.{code-of, code-of-open, code-of-pay, opened, paid, carried-out, if-done};
 use crate::book::Book;
+use crate::book::LAST_VALVE;
 use crate::order::ValveOrder;
-use application::codes::{BAD_AMOUNT, BAD_PLACE, BAD_VALUE, DONE, UNKNOWN};
+use application::codes::BAD_AMOUNT;
+use application::codes::BAD_PLACE;
+use application::codes::BAD_VALUE;
+use application::codes::DONE;
+use application::codes::UNKNOWN;
+use application::interface::LAST_CLIENT;
 
-const LAST_CLIENT: u8 = 31;
-const LAST_VALVE: u8 = 63;
 const WIDE_OPEN: u16 = 1000;
 
 impl Book {

@@ -5,7 +5,8 @@ ghost use Rattle.application.specs.Payload.{bytes2, bytes4};
 ghost use Rattle.digest.specs.Fnv.{fnv-from, fnv1a};
 ghost use Rattle.valves.specs.Mark.{book-bytes};
 use crate::book::Book;
-use digest::fnv::{absorb_all, offset_basis};
+use digest::fnv::absorb_all;
+use digest::fnv::offset_basis;
 
 fn absorb_accounts(hash: u64, accounts: &[u32]) -> u64
     ensures { λ r. ⌜ r ≡ fnv-from hash (joined bytes4 (now (accounts .entry))) ⌝ }

@@ -1,10 +1,12 @@
 // The valves as an application.
 ghost use mathlib.Core.Path.{_≡_};
-ghost use Rattle.valves.specs.Valves.{new-valves, after, answer, mark-of, account-at, opening-at};
+ghost use Rattle.valves.specs.Valves.{new-valves, after, answer, mark-of, account-at, plant-of, opening-at};
 use crate::book::Book;
+use crate::book::LAST_VALVE;
 use crate::order::order_of;
 use crate::state::Valves;
 use application::interface::Application;
+use application::interface::LAST_CLIENT;
 
 impl Valves {
     pub fn new() -> Valves
@@ -21,25 +23,26 @@ impl Valves {
 
     // What a client has, if there is such a client.
     pub fn account(&self, client: u8) -> Option<u32>
-        ensures { λ r. ⌜ r ≡ account-at (now (self .entry) .book) client ⌝ }
+        ensures { λ r. ⌜ r ≡ account-at (now (self .entry)) client ⌝ }
     {
-        if client > 31 {
+        if client > LAST_CLIENT {
             return None;
         }
         Some(self.book.accounts[client as usize])
     }
 
+    // What the plant has.
     pub fn plant(&self) -> u32
-        ensures { λ r. ⌜ r ≡ now (self .entry) .book .plant ⌝ }
+        ensures { λ r. ⌜ r ≡ plant-of (now (self .entry)) ⌝ }
     {
         self.book.plant
     }
 
     // How far a valve is open, if there is such a valve.
     pub fn opening(&self, valve: u8) -> Option<u16>
-        ensures { λ r. ⌜ r ≡ opening-at (now (self .entry) .book) valve ⌝ }
+        ensures { λ r. ⌜ r ≡ opening-at (now (self .entry)) valve ⌝ }
     {
-        if valve > 63 {
+        if valve > LAST_VALVE {
             return None;
         }
         Some(self.book.openings[valve as usize])

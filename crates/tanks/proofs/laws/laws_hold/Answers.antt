@@ -4,7 +4,7 @@ use lib.Dec.{eqb}
 use Rattle.std.specs.declared.option.Option.{Option}
 use Rattle.std.specs.declared.option.Option.the-variants.{Some, None}
 use Rattle.std.proofs.shelf.Tests.{cond-false, ne-eqb}
-use Rattle.tanks.specs.declared.tank.Farm.{Farm}
+use Rattle.tanks.specs.declared.farm.Farm.{Farm}
 use Rattle.tanks.specs.declared.order.TankOrder.{TankOrder}
 use Rattle.tanks.specs.declared.order.TankOrder.the-variants.{SetPoint, SetLitres, Move}
 use Rattle.tanks.specs.Farm.{code-of, code-of-set-point, code-of-set-litres, code-of-move, with-set-point, with-litres, moved, carried-out}
@@ -24,7 +24,7 @@ pub returns : need.returns
 returns c = record {
   within = λ t tank. (t .level tank, t .warmth tank);
   moves = λ t client timestamp payload from to litres e.
-    subst (λ o. total (carried-out (t .farm) client o) ≡ total (t .farm)) (sym e) (move-total (t .farm) client from to litres (t .long));
+      subst (λ o. total (carried-out (t .farm) client o) ≡ total (t .farm)) (sym e) (move-total (t .farm) client from to litres (t .long));
   unchanged = λ t client timestamp payload h. same-tanks _ _ (kept (t .farm) client (order-of payload) h);
   worked = record { source = refl; target = refl; refused = refl };
 }

@@ -10,7 +10,6 @@ use Rattle.valves.specs.declared.order.ValveOrder.{ValveOrder}
 use Rattle.valves.specs.declared.order.ValveOrder.the-variants.{Open, Pay}
 use Rattle.valves.specs.Book.{code-of, code-of-open, code-of-pay, opened, paid, carried-out}
 use Rattle.valves.specs.Orders.{order-of}
-use Rattle.valves.specs.Valves.{after}
 use Rattle.valves.proofs.Same.{same-valves}
 use Rattle.valves.proofs.laws.laws_hold.Needs as need
 
@@ -21,7 +20,8 @@ kept b client (Some (Pay to units)) h = cond-false (eqb (code-of-pay b client to
 
 pub returns : need.returns
 returns c = record {
-  whole = λ v client timestamp payload. after v client timestamp payload .whole;
+  whole = λ v. v .whole;
+  within = λ v valve. v .within valve;
   unchanged = λ v client timestamp payload h. same-valves _ _ (kept (v .book) client (order-of payload) h);
-  case = record { first = refl; second = refl; account = refl; plant = refl; opening = refl };
+  worked = record { first = refl; second = refl; account = refl; plant = refl; opening = refl };
 }
