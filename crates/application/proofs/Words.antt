@@ -4,7 +4,7 @@ use Prim.Native.Nat.{ℕ, _+_, _*_, _/_, _%_, _^_, _<_}
 use native.Mathlib.Nat.{div-div-eq-div-mul, mod-eq-of-lt}
 use native.Mathlib.Omega.{arith}
 use Rattle.std.proofs.shelf.Bits.{div-below}
-use Rattle.application.specs.Payload.{Bytes, bytes-of, payload-of-bytes, four}
+use Rattle.application.specs.Payload.{eight, bytes-of, payload-of-bytes, four}
 
 -- one byte more to the right
 step-back : (n k : ℕ) → n / k / 256 ≡ n / (k * 256)
@@ -20,7 +20,7 @@ cut : (n x d : ℕ) → n ≡ x * 256 + d → d < 256 → (n / 256 ≡ x) × (n 
 cut n x d e h = (omega arith, omega arith)
 
 -- each of eight bytes can be read from the payload that is made of them
-pub bytes-back : (a b d e f g h k : ℕ) → a < 256 → b < 256 → d < 256 → e < 256 → f < 256 → g < 256 → h < 256 → k < 256 → bytes-of (payload-of-bytes (record { b0 = a; b1 = b; b2 = d; b3 = e; b4 = f; b5 = g; b6 = h; b7 = k })) ≡ record { b0 = a; b1 = b; b2 = d; b3 = e; b4 = f; b5 = g; b6 = h; b7 = k }
+pub bytes-back : (a b d e f g h k : ℕ) → a < 256 → b < 256 → d < 256 → e < 256 → f < 256 → g < 256 → h < 256 → k < 256 → bytes-of (payload-of-bytes (eight a b d e f g h k)) ≡ eight a b d e f g h k
 bytes-back a b d e f g h k ha hb hd he hf hg hh hk =
     let n : ℕ = a * 2 ^ 56 + b * 2 ^ 48 + d * 2 ^ 40 + e * 2 ^ 32 + f * 2 ^ 24 + g * 2 ^ 16 + h * 2 ^ 8 + k in
     let x1 : ℕ = a * 2 ^ 48 + b * 2 ^ 40 + d * 2 ^ 32 + e * 2 ^ 24 + f * 2 ^ 16 + g * 2 ^ 8 + h in

@@ -15,6 +15,9 @@ pub record Bytes : Type 0 where
   pub b6 : ℕ
   pub b7 : ℕ
 
+abbrev pub eight : ℕ → ℕ → ℕ → ℕ → ℕ → ℕ → ℕ → ℕ → Bytes
+eight b0 b1 b2 b3 b4 b5 b6 b7 = record { b0 = b0; b1 = b1; b2 = b2; b3 = b3; b4 = b4; b5 = b5; b6 = b6; b7 = b7 }
+
 abbrev pub bytes-of : ℕ → Bytes
 bytes-of payload = record {
   b0 = payload / 2 ^ 56 % 256;

@@ -8,7 +8,7 @@ use lib.Dec.{eqb}
 use lib.IntN.{ℤ}
 use Rattle.std.specs.declared.option.Option.{Option}
 use Rattle.std.specs.declared.option.Option.the-variants.{Some, None}
-use Rattle.application.specs.Payload.{Bytes, bytes-of, payload-of-bytes, zeros, two, four}
+use Rattle.application.specs.Payload.{Bytes, eight, bytes-of, payload-of-bytes, zeros, two, four}
 use Rattle.tanks.specs.declared.order.TankOrder.{TankOrder}
 use Rattle.tanks.specs.declared.order.TankOrder.the-variants.{SetPoint, SetLitres, Move}
 
@@ -19,8 +19,8 @@ signed n = toZ w16 n
 abbrev pub unsigned : ℤ → ℕ
 unsigned z = ofZ w16 z
 
--- b0 = 1 sets tank b1's set point to b6b7; b0 = 2 sets tank b1's litres to b4..b7; b0 = 3 moves b4..b7 litres from tank b1 to tank b2;
--- the other bytes are 0
+-- b0 = 1 sets tank b1's set point to b6b7; b0 = 2 sets tank b1's litres to b4..b7; b0 = 3 moves b4..b7 litres from
+-- tank b1 to tank b2; the other bytes are 0
 abbrev pub read-order : Bytes → Option TankOrder
 read-order b =
     cond (eqb (b .b0) 1 && zeros (b .b2 ∷ b .b3 ∷ b .b4 ∷ b .b5 ∷ []))
@@ -36,36 +36,11 @@ order-of payload = read-order (bytes-of payload)
 
 -- the bytes of an order
 abbrev pub bytes-in : TankOrder → Bytes
-bytes-in (SetPoint tank to) = record {
-  b0 = 1;
-  b1 = tank;
-  b2 = 0;
-  b3 = 0;
-  b4 = 0;
-  b5 = 0;
-  b6 = unsigned to / 256 % 256;
-  b7 = unsigned to % 256;
-}
-bytes-in (SetLitres tank litres) = record {
-  b0 = 2;
-  b1 = tank;
-  b2 = 0;
-  b3 = 0;
-  b4 = litres / 2 ^ 24 % 256;
-  b5 = litres / 2 ^ 16 % 256;
-  b6 = litres / 256 % 256;
-  b7 = litres % 256;
-}
-bytes-in (Move from to litres) = record {
-  b0 = 3;
-  b1 = from;
-  b2 = to;
-  b3 = 0;
-  b4 = litres / 2 ^ 24 % 256;
-  b5 = litres / 2 ^ 16 % 256;
-  b6 = litres / 256 % 256;
-  b7 = litres % 256;
-}
+bytes-in (SetPoint tank to) = eight 1 tank 0 0 0 0 (unsigned to / 256 % 256) (unsigned to % 256)
+bytes-in (SetLitres tank litres) =
+    eight 2 tank 0 0 (litres / 2 ^ 24 % 256) (litres / 2 ^ 16 % 256) (litres / 256 % 256) (litres % 256)
+bytes-in (Move from to litres) =
+    eight 3 from to 0 (litres / 2 ^ 24 % 256) (litres / 2 ^ 16 % 256) (litres / 256 % 256) (litres % 256)
 
 abbrev pub payload-of : TankOrder → ℕ
 payload-of o = payload-of-bytes (bytes-in o)

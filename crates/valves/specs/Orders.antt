@@ -5,7 +5,7 @@ use Prim.Native.Nat.{ℕ, _/_, _%_, _^_}
 use lib.Dec.{eqb}
 use Rattle.std.specs.declared.option.Option.{Option}
 use Rattle.std.specs.declared.option.Option.the-variants.{Some, None}
-use Rattle.application.specs.Payload.{Bytes, bytes-of, payload-of-bytes, zeros, two, four}
+use Rattle.application.specs.Payload.{Bytes, eight, bytes-of, payload-of-bytes, zeros, two, four}
 use Rattle.valves.specs.declared.order.ValveOrder.{ValveOrder}
 use Rattle.valves.specs.declared.order.ValveOrder.the-variants.{Open, Pay}
 
@@ -23,26 +23,9 @@ order-of payload = read-order (bytes-of payload)
 
 -- the bytes of an order
 abbrev pub bytes-in : ValveOrder → Bytes
-bytes-in (Open valve opening) = record {
-  b0 = 1;
-  b1 = valve;
-  b2 = 0;
-  b3 = 0;
-  b4 = 0;
-  b5 = 0;
-  b6 = opening / 256 % 256;
-  b7 = opening % 256;
-}
-bytes-in (Pay to units) = record {
-  b0 = 2;
-  b1 = to;
-  b2 = 0;
-  b3 = 0;
-  b4 = units / 2 ^ 24 % 256;
-  b5 = units / 2 ^ 16 % 256;
-  b6 = units / 256 % 256;
-  b7 = units % 256;
-}
+bytes-in (Open valve opening) = eight 1 valve 0 0 0 0 (opening / 256 % 256) (opening % 256)
+bytes-in (Pay to units) =
+    eight 2 to 0 0 (units / 2 ^ 24 % 256) (units / 2 ^ 16 % 256) (units / 256 % 256) (units % 256)
 
 abbrev pub payload-of : ValveOrder → ℕ
 payload-of o = payload-of-bytes (bytes-in o)

@@ -5,6 +5,6 @@ pub(crate) const LAST_VALVE: u8 = 63;
 pub struct Book {
     pub accounts: [u32; 32],
     pub plant: u32,
-    // in thousandths
+    // of each valve, 0 to 1,000
     pub openings: [u16; 64],
 }
