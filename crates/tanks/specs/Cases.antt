@@ -6,7 +6,7 @@ use Rattle.application.specs.Codes.{bad-amount}
 use Rattle.tanks.specs.declared.order.TankOrder.the-variants.{SetPoint, SetLitres, Move}
 use Rattle.tanks.specs.declared.state.Tanks.{Tanks}
 use Rattle.tanks.specs.Orders.{payload-of}
-use Rattle.tanks.specs.Tanks.{new-tanks, after, answer, tank-at}
+use Rattle.tanks.specs.Tanks.{new-tanks, after, answer, mark-of, tank-at}
 
 abbrev pub worked : Tanks
 worked =
@@ -16,3 +16,4 @@ pub record Filled-and-moved : Type 0 where
   pub source : tank-at worked 3 ≡ Some (record { litres = 600; «set_point» = pos 2000 })
   pub target : tank-at worked 5 ≡ Some (record { litres = 400; «set_point» = negsuc 499 })
   pub refused : answer worked 1 4 (payload-of (Move 3 5 601)) ≡ bad-amount
+  pub mark : mark-of worked ≡ 0x8e0f0f2d48026afb

@@ -6,7 +6,7 @@ use Rattle.application.specs.Codes.{done}
 use Rattle.valves.specs.declared.order.ValveOrder.the-variants.{Open}
 use Rattle.valves.specs.declared.state.Valves.{Valves}
 use Rattle.valves.specs.Orders.{payload-of}
-use Rattle.valves.specs.Valves.{new-valves, after, answer, account-at, plant-of, opening-at}
+use Rattle.valves.specs.Valves.{new-valves, after, answer, mark-of, account-at, plant-of, opening-at}
 
 abbrev pub to-250 : Valves
 to-250 = after new-valves 2 1 (payload-of (Open 7 250))
@@ -20,3 +20,4 @@ pub record Opened-twice : Type 0 where
   pub account : account-at to-100 2 ≡ Some 9600
   pub plant : plant-of to-100 ≡ 400
   pub opening : opening-at to-100 7 ≡ Some 100
+  pub mark : mark-of to-100 ≡ 0x7b99f5f867f0900a

@@ -26,5 +26,5 @@ returns c = record {
   moves = λ t client timestamp payload from to litres e.
       subst (λ o. total (carried-out (t .farm) client o) ≡ total (t .farm)) (sym e) (move-total (t .farm) client from to litres (t .long));
   unchanged = λ t client timestamp payload h. same-tanks _ _ (kept (t .farm) client (order-of payload) h);
-  worked = record { source = refl; target = refl; refused = refl };
+  worked = record { source = refl; target = refl; refused = refl; mark = refl };
 }

@@ -23,5 +23,5 @@ returns c = record {
   whole = λ v. v .whole;
   within = λ v valve. v .within valve;
   unchanged = λ v client timestamp payload h. same-valves _ _ (kept (v .book) client (order-of payload) h);
-  worked = record { first = refl; second = refl; account = refl; plant = refl; opening = refl };
+  worked = record { first = refl; second = refl; account = refl; plant = refl; opening = refl; mark = refl };
 }
