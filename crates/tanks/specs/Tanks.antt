@@ -30,7 +30,7 @@ sound t = record { long = t .long; level = t .level; warmth = t .warmth }
 abbrev pub tanks-of : (f : Farm) → Sound f → Tanks
 tanks-of f h = record { farm = f; long = h .long; level = h .level; warmth = h .warmth }
 
-abbrev pub new-tanks : Tanks
+unfoldable pub new-tanks : Tanks
 new-tanks =
     tanks-of first-farm
     (record {
@@ -40,11 +40,11 @@ new-tanks =
     })
 
 -- the tanks after an order of a client
-abbrev pub after : Tanks → ℕ → ℕ → ℕ → Tanks
+unfoldable pub after : Tanks → ℕ → ℕ → ℕ → Tanks
 after t client timestamp payload =
     tanks-of (carried-out (t .farm) client (order-of payload)) (keeps (t .farm) client (order-of payload) (sound t))
 
-abbrev pub answer : Tanks → ℕ → ℕ → ℕ → ℕ
+unfoldable pub answer : Tanks → ℕ → ℕ → ℕ → ℕ
 answer t client timestamp payload = code-of (t .farm) client (order-of payload)
 
 abbrev pub mark-of : Tanks → ℕ

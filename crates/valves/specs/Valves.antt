@@ -25,17 +25,17 @@ sound v = record { long = v .long; whole = v .whole; within = v .within }
 abbrev pub valves-of : (b : Book) → Sound b → Valves
 valves-of b h = record { book = b; long = h .long; whole = h .whole; within = h .within }
 
-abbrev pub new-valves : Valves
+unfoldable pub new-valves : Valves
 new-valves =
     valves-of first-book
     (record { long = refl; whole = refl; within = each-replicate (λ x. x ≤ 1000) 64 0 0 (lit≤ tt) (lit≤ tt) })
 
 -- the valves after an order of a client
-abbrev pub after : Valves → ℕ → ℕ → ℕ → Valves
+unfoldable pub after : Valves → ℕ → ℕ → ℕ → Valves
 after v client timestamp payload =
     valves-of (carried-out (v .book) client (order-of payload)) (keeps (v .book) client (order-of payload) (sound v))
 
-abbrev pub answer : Valves → ℕ → ℕ → ℕ → ℕ
+unfoldable pub answer : Valves → ℕ → ℕ → ℕ → ℕ
 answer v client timestamp payload = code-of (v .book) client (order-of payload)
 
 abbrev pub mark-of : Valves → ℕ

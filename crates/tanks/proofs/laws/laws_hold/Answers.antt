@@ -10,6 +10,7 @@ use Rattle.tanks.specs.declared.order.TankOrder.the-variants.{SetPoint, SetLit
 use Rattle.tanks.specs.Farm.{code-of, code-of-set-point, code-of-set-litres, code-of-move, with-set-point, with-litres, moved, carried-out}
 use Rattle.tanks.specs.Laws.{total}
 use Rattle.tanks.specs.Orders.{order-of}
+use Rattle.tanks.specs.Tanks.{new-tanks, after, answer}
 use Rattle.tanks.proofs.Same.{same-tanks}
 use Rattle.tanks.proofs.Totals.{move-total}
 use Rattle.tanks.proofs.laws.laws_hold.Needs as need
@@ -21,6 +22,7 @@ kept f client (Some (SetLitres tank litres)) h = cond-false (eqb (code-of-set-li
 kept f client (Some (Move from to litres)) h = cond-false (eqb (code-of-move f client from to litres) 0) (moved f from to litres) f (ne-eqb _ _ h)
 
 pub returns : need.returns
+unfolding new-tanks after answer
 returns c = record {
   within = λ t tank. (t .level tank, t .warmth tank);
   moves = λ t client timestamp payload from to litres e.

@@ -10,6 +10,7 @@ use Rattle.valves.specs.declared.order.ValveOrder.{ValveOrder}
 use Rattle.valves.specs.declared.order.ValveOrder.the-variants.{Open, Pay}
 use Rattle.valves.specs.Book.{code-of, code-of-open, code-of-pay, opened, paid, carried-out}
 use Rattle.valves.specs.Orders.{order-of}
+use Rattle.valves.specs.Valves.{new-valves, after, answer}
 use Rattle.valves.proofs.Same.{same-valves}
 use Rattle.valves.proofs.laws.laws_hold.Needs as need
 
@@ -19,6 +20,7 @@ kept b client (Some (Open valve opening)) h = cond-false (eqb (code-of-open b cl
 kept b client (Some (Pay to units)) h = cond-false (eqb (code-of-pay b client to units) 0) (paid b client to units) b (ne-eqb _ _ h)
 
 pub returns : need.returns
+unfolding new-valves after answer
 returns c = record {
   whole = λ v. v .whole;
   within = λ v valve. v .within valve;

@@ -2,7 +2,7 @@ use mathlib.Core.Path.{_≡_, sym, subst, ap, _∙_}
 use Rattle.tanks.specs.Farm.{carried-out, code-of}
 use Rattle.tanks.specs.Keeps.{Sound, keeps}
 use Rattle.tanks.specs.Orders.{order-of}
-use Rattle.tanks.specs.Tanks.{sound}
+use Rattle.tanks.specs.Tanks.{after, answer, sound}
 use Rattle.tanks.proofs.Same.{same-tanks}
 use Rattle.tanks.proofs.operate.TanksApplication.apply.Needs as need
 
@@ -13,6 +13,7 @@ ghost-self c =
     (h .long, (h .level, (h .warmth, tt)))
 
 pub returns : need.returns
+unfolding after answer
 returns c = record {
   after = same-tanks _ _ (c .carry-out .ensures .after ∙ ap (carried-out (c .args .self .now .farm) (c .args .client)) (c .order-of .ensures));
   value = c .carry-out .ensures .value ∙ ap (code-of (c .args .self .now .farm) (c .args .client)) (c .order-of .ensures);

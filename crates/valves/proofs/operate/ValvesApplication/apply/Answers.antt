@@ -2,7 +2,7 @@ use mathlib.Core.Path.{_≡_, sym, subst, ap, _∙_}
 use Rattle.valves.specs.Book.{carried-out, code-of}
 use Rattle.valves.specs.Keeps.{Sound, keeps}
 use Rattle.valves.specs.Orders.{order-of}
-use Rattle.valves.specs.Valves.{sound}
+use Rattle.valves.specs.Valves.{after, answer, sound}
 use Rattle.valves.proofs.Same.{same-valves}
 use Rattle.valves.proofs.operate.ValvesApplication.apply.Needs as need
 
@@ -13,6 +13,7 @@ ghost-self c =
     (h .long, (h .whole, (h .within, tt)))
 
 pub returns : need.returns
+unfolding after answer
 returns c = record {
   after = same-valves _ _ (c .carry-out .ensures .after ∙ ap (carried-out (c .args .self .now .book) (c .args .client)) (c .order-of .ensures));
   value = c .carry-out .ensures .value ∙ ap (code-of (c .args .self .now .book) (c .args .client)) (c .order-of .ensures);
