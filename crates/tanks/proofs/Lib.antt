@@ -1,0 +1,3 @@
+pub mod Back
+pub mod Same
+pub mod Totals
