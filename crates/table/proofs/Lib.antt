@@ -1,1 +1,3 @@
 pub mod Backing
+pub mod Turned
+pub mod Entering

@@ -2,3 +2,5 @@
 pub mod ballots;
 pub mod places;
 pub mod records;
+mod shift;
+pub mod window;
