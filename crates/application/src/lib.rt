@@ -1,0 +1,3 @@
+// What the log's orders are applied to.
+pub mod codes;
+pub mod interface;
