@@ -1,0 +1,4 @@
+pub mod Spans
+pub mod Marked
+pub mod Clients
+pub mod Deliveries

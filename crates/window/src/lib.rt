@@ -1,0 +1,6 @@
+// Which timestamps of each client were applied, and the delivery of requests by them.
+pub mod delivery;
+mod marking;
+pub mod span;
+pub mod window;
+pub mod windows;
