@@ -10,15 +10,15 @@ use lib.Pow.{pow-mono, pow-lt}
 use Rattle.std.proofs.shelf.Tests.{eqb-true, eqb-false, cond-both, and-parts, leb-true, ltb-true}
 use Rattle.window.specs.declared.span.Span.{Span}
 use Rattle.window.specs.declared.window.Window.{Window}
-use Rattle.window.specs.Spans.{free, put, up, rise, marked, Low, Fitted}
+use Rattle.window.specs.Spans.{bit, free, put, up, rise, marked, Low, Fitted}
 
 -- what a free timestamp is
-pub free-range : (s : Span) (t : ℕ) → free s t ≡ true → (s .base < t) × (t - s .base ≤ 64) × (t ≤ 4294967295)
+pub free-range : (s : Span) (t : ℕ) → free s t ≡ true → (s .base < t) × (t - s .base ≤ 64) × (t ≤ 4294967295) × (bit s t ≡ 0)
 free-range s t e =
     let a = and-parts (ltb (s .base) t) _ e in
     let b = and-parts (leb (t - s .base) 64) _ (a .1) in
     let d = and-parts (leb t 4294967295) _ (b .1) in
-    (ltb-true (s .base) t (a .0), leb-true (t - s .base) 64 (b .0), leb-true t 4294967295 (d .0))
+    (ltb-true (s .base) t (a .0), leb-true (t - s .base) 64 (b .0), leb-true t 4294967295 (d .0), eqb-true (bit s t) 0 (d .1))
 
 -- half of an odd number below 2 ^ k is below 2 ^ (k - 1)
 pub half-below : (m k : ℕ) → m % 2 ≡ 1 → m < 2 ^ k → (0 < k) × (m / 2 < 2 ^ (k - 1))

@@ -1,5 +1,6 @@
 // Which timestamps of each client were applied, and the delivery of requests by them.
 pub mod delivery;
+pub mod laws;
 mod marking;
 pub mod span;
 pub mod window;

@@ -2,15 +2,11 @@ use mathlib.Core.Path.{_≡_, sym, ap, _∙_}
 use native.Mathlib.Omega.{arith}
 use lib.ListN.{getD}
 use lib.Seq.{take-all}
-use Rattle.wire.specs.declared.records.Request.{Request}
+use Rattle.window.specs.Histories.{no-request}
 use Rattle.window.specs.Deliveries.{Course, taken, delivered}
 use Rattle.window.proofs.Turns.{applied-one, passed-one, one-more}
 use Rattle.window.proofs.delivery.deliver.Needs as need
 use Rattle.window.proofs.delivery.deliver.Needs.{then-take, else-take}
-
--- what stands past the end of a slice of requests
-abbrev none : Request
-none = record { client = 0; timestamp = 0; payload = 0; seal = 0 }
 
 pub loop-q-again : need.loop-q-again
 loop-q-again g c =
@@ -19,13 +15,13 @@ loop-q-again g c =
     elim (c .if-take .came) [
       | then-take w ↦ (
         omega (arith, w .applied-is, w .passed-is),
-        one-more next _ (c .args .requests .now) (c .loop-q .q-index) none s _ (c .loop-q-test .taken) (c .loop-q .inv .1)
-            (applied-one next s (getD (c .args .requests .now) (c .loop-q .q-index) none) _ _ _ _ (w .if-take .ensures tt .value) (w .if-take .ensures tt .app) (w .if-take .ensures tt .windows) (w .applied-is) (w .passed-is)),
+        one-more next _ (c .args .requests .now) (c .loop-q .q-index) no-request s _ (c .loop-q-test .taken) (c .loop-q .inv .1)
+            (applied-one next s (getD (c .args .requests .now) (c .loop-q .q-index) no-request) _ _ _ _ (w .if-take .ensures tt .value) (w .if-take .ensures tt .app) (w .if-take .ensures tt .windows) (w .applied-is) (w .passed-is)),
       )
       | else-take w ↦ (
         omega (arith, w .applied-is, w .passed-is),
-        one-more next _ (c .args .requests .now) (c .loop-q .q-index) none s _ (c .loop-q-test .taken) (c .loop-q .inv .1)
-            (passed-one next s (getD (c .args .requests .now) (c .loop-q .q-index) none) _ _ _ _ (w .if-take .ensures tt .value) (w .if-take .ensures tt .app) (w .if-take .ensures tt .windows) (w .applied-is) (w .passed-is)),
+        one-more next _ (c .args .requests .now) (c .loop-q .q-index) no-request s _ (c .loop-q-test .taken) (c .loop-q .inv .1)
+            (passed-one next s (getD (c .args .requests .now) (c .loop-q .q-index) no-request) _ _ _ _ (w .if-take .ensures tt .value) (w .if-take .ensures tt .app) (w .if-take .ensures tt .windows) (w .applied-is) (w .passed-is)),
       )
     ]
 
