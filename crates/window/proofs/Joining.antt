@@ -26,9 +26,9 @@ served-append ws [] ys = refl
 served-append ws (q ∷ xs) ys = go (cases-bool (admitted ws q)) (served-append (marking ws q) xs ys) (served-append ws xs ys)
   where
     go : (admitted ws q ≡ true) ⊎ (admitted ws q ≡ false)
-         → served (marking ws q) (xs ++ ys) ≡ served (marking ws q) xs ++ served (windows-after (marking ws q) xs) ys
-         → served ws (xs ++ ys) ≡ served ws xs ++ served (windows-after ws xs) ys
-         → served ws (q ∷ xs ++ ys) ≡ served ws (q ∷ xs) ++ served (windows-after ws (q ∷ xs)) ys
+        → served (marking ws q) (xs ++ ys) ≡ served (marking ws q) xs ++ served (windows-after (marking ws q) xs) ys
+        → served ws (xs ++ ys) ≡ served ws xs ++ served (windows-after ws xs) ys
+        → served ws (q ∷ xs ++ ys) ≡ served ws (q ∷ xs) ++ served (windows-after ws (q ∷ xs)) ys
     go (inl e) more same =
         served-yes ws q (xs ++ ys) e ∙ ap (λ (l : List Request). q ∷ l) more
         ∙ sym (ap (λ (l : List Request). l ++ served (windows-after (marking ws q) xs) ys) (served-yes ws q xs e))
@@ -89,11 +89,11 @@ module _ {X : Type 0} (next : X → ℕ → ℕ → ℕ → X) where
       go (cases-bool (admitted (s .windows) q)) (resumes (applies next s q) qs) (resumes (applies next (start s) q) qs) (resumes (passes next s q) qs) (resumes (passes next (start s) q) qs)
     where
       go : (admitted (s .windows) q ≡ true) ⊎ (admitted (s .windows) q ≡ false)
-           → folded (taken next) (applies next s q) qs ≡ resumed next (applies next s q) qs
-           → folded (taken next) (applies next (start s) q) qs ≡ resumed next (applies next (start s) q) qs
-           → folded (taken next) (passes next s q) qs ≡ resumed next (passes next s q) qs
-           → folded (taken next) (passes next (start s) q) qs ≡ resumed next (passes next (start s) q) qs
-           → folded (taken next) s (q ∷ qs) ≡ resumed next s (q ∷ qs)
+          → folded (taken next) (applies next s q) qs ≡ resumed next (applies next s q) qs
+          → folded (taken next) (applies next (start s) q) qs ≡ resumed next (applies next (start s) q) qs
+          → folded (taken next) (passes next s q) qs ≡ resumed next (passes next s q) qs
+          → folded (taken next) (passes next (start s) q) qs ≡ resumed next (passes next (start s) q) qs
+          → folded (taken next) s (q ∷ qs) ≡ resumed next s (q ∷ qs)
       go (inl e) a b c d =
           let r : Course X = applies next s q in
           let n : ℕ = delivered next (r .app) (r .windows) qs .applied in

@@ -16,7 +16,7 @@ use Rattle.window.specs.Spans.{free, seen}
 use Rattle.window.specs.Marked.{after, fresh, free-range}
 use Rattle.window.specs.Clients.{all-fresh, window-of, admits, marks}
 use Rattle.window.specs.Histories.{windows-then, windows-after, served, names, Stands, no-request}
-use Rattle.window.specs.Laws.{Full, Apart, Served-once, Served-stands, Served-ranges, Seen-grows, Seen-served}
+use Rattle.window.specs.Laws.{Full, New-full, Stays-full, Apart, Served-once, Served-stands, Served-ranges, Seen-grows, Seen-served}
 use Rattle.window.proofs.Seen.{mark-adds, free-unseen, fresh-unseen}
 use Rattle.window.proofs.History.{or-swap}
 
@@ -57,6 +57,11 @@ pub marking-full : (ws : Windows) (q : Request) → admitted ws q ≡ true → F
 marking-full ws q e full =
     ap (λ (v : Windows). length (v .clients)) (marking-is ws q e) ∙ length-set (ws .clients) (q .client) (after (window-of ws (q .client)) (q .timestamp)) ∙ full
 
+pub stays-full : Stays-full
+stays-full ws [] full = full
+stays-full ws (q ∷ qs) full =
+    stays-full (windows-then ws q) qs (cond-both (admitted ws q) (marking ws q) ws Full (λ e. marking-full ws q e full) (λ _. full))
+
 -- a mark adds the client's timestamp to what is seen of the clients, and no other
 pub seen-marking : (ws : Windows) (q : Request) → Full ws → admitted ws q ≡ true → (client u : ℕ) → seen (window-of (marking ws q) client .span) u ≡ ((eqb client (q .client) && eqb u (q .timestamp)) || seen (window-of ws client .span) u)
 seen-marking ws q full e client u = ap (λ (v : Windows). seen (window-of v client .span) u) (marking-is ws q e) ∙ go (cases-eq client (q .client))
@@ -80,9 +85,9 @@ seen-grows ws [] full client u = refl
 seen-grows ws (q ∷ qs) full client u = go (cases-bool (admitted ws q)) (λ e. seen-grows (marking ws q) qs (marking-full ws q e full) client u) (seen-grows ws qs full client u)
   where
     go : (admitted ws q ≡ true) ⊎ (admitted ws q ≡ false)
-         → (admitted ws q ≡ true → seen (window-of (windows-after (marking ws q) qs) client .span) u ≡ (names client u (served (marking ws q) qs) || seen (window-of (marking ws q) client .span) u))
-         → seen (window-of (windows-after ws qs) client .span) u ≡ (names client u (served ws qs) || seen (window-of ws client .span) u)
-         → seen (window-of (windows-after ws (q ∷ qs)) client .span) u ≡ (names client u (served ws (q ∷ qs)) || seen (window-of ws client .span) u)
+        → (admitted ws q ≡ true → seen (window-of (windows-after (marking ws q) qs) client .span) u ≡ (names client u (served (marking ws q) qs) || seen (window-of (marking ws q) client .span) u))
+        → seen (window-of (windows-after ws qs) client .span) u ≡ (names client u (served ws qs) || seen (window-of ws client .span) u)
+        → seen (window-of (windows-after ws (q ∷ qs)) client .span) u ≡ (names client u (served ws (q ∷ qs)) || seen (window-of ws client .span) u)
     go (inl e) more same =
         ap (λ (v : Windows). seen (window-of (windows-after v qs) client .span) u) (then-yes ws q e)
         ∙ more e
@@ -94,7 +99,7 @@ seen-grows ws (q ∷ qs) full client u = go (cases-bool (admitted ws q)) (λ e. 
         ∙ same
         ∙ sym (ap (λ (l : List Request). names client u l || seen (window-of ws client .span) u) (served-no ws q qs e))
 
-pub fresh-full : Full all-fresh
+pub fresh-full : New-full
 fresh-full = length-replicate 32 fresh
 
 fresh-window : (client : ℕ) → window-of all-fresh client ≡ fresh
@@ -123,7 +128,7 @@ served-stands ws [] r h = h
 served-stands ws (q ∷ qs) r h = go (stands-served ws q qs r h) (served-stands (marking ws q) qs r) (served-stands ws qs r)
   where
     go : ((admitted ws q ≡ true) × ((q ≡ r) ⊎ Stands r (served (marking ws q) qs))) ⊎ ((admitted ws q ≡ false) × Stands r (served ws qs))
-         → (Stands r (served (marking ws q) qs) → Stands r qs) → (Stands r (served ws qs) → Stands r qs) → Stands r (q ∷ qs)
+        → (Stands r (served (marking ws q) qs) → Stands r qs) → (Stands r (served ws qs) → Stands r qs) → Stands r (q ∷ qs)
     go (inl (e, inl is)) more same = inl is
     go (inl (e, inr h)) more same = inr (more h)
     go (inr (e, h)) more same = inr (same h)
@@ -134,7 +139,7 @@ served-each P each ws [] r h = absurd h
 served-each P each ws (q ∷ qs) r h = go (stands-served ws q qs r h) (served-each P each (marking ws q) qs r) (served-each P each ws qs r)
   where
     go : ((admitted ws q ≡ true) × ((q ≡ r) ⊎ Stands r (served (marking ws q) qs))) ⊎ ((admitted ws q ≡ false) × Stands r (served ws qs))
-         → (Stands r (served (marking ws q) qs) → P r) → (Stands r (served ws qs) → P r) → P r
+        → (Stands r (served (marking ws q) qs) → P r) → (Stands r (served ws qs) → P r) → P r
     go (inl (e, inl is)) more same = subst P is (each ws q e)
     go (inl (e, inr h)) more same = more h
     go (inr (e, h)) more same = same h
@@ -150,9 +155,9 @@ served-unseen ws [] full r h = absurd h
 served-unseen ws (q ∷ qs) full r h = go (stands-served ws q qs r h) (λ e. served-unseen (marking ws q) qs (marking-full ws q e full) r) (served-unseen ws qs full r)
   where
     go : ((admitted ws q ≡ true) × ((q ≡ r) ⊎ Stands r (served (marking ws q) qs))) ⊎ ((admitted ws q ≡ false) × Stands r (served ws qs))
-         → (admitted ws q ≡ true → Stands r (served (marking ws q) qs) → seen (window-of (marking ws q) (r .client) .span) (r .timestamp) ≡ false)
-         → (Stands r (served ws qs) → seen (window-of ws (r .client) .span) (r .timestamp) ≡ false)
-         → seen (window-of ws (r .client) .span) (r .timestamp) ≡ false
+        → (admitted ws q ≡ true → Stands r (served (marking ws q) qs) → seen (window-of (marking ws q) (r .client) .span) (r .timestamp) ≡ false)
+        → (Stands r (served ws qs) → seen (window-of ws (r .client) .span) (r .timestamp) ≡ false)
+        → seen (window-of ws (r .client) .span) (r .timestamp) ≡ false
     go (inl (e, inl is)) more same =
         subst (λ (p : Request). seen (window-of ws (p .client) .span) (p .timestamp) ≡ false) is
         (free-unseen (window-of ws (q .client)) (q .timestamp) (admitted-parts ws q e .1))

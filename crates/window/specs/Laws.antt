@@ -34,6 +34,13 @@ Seen-marked = (ts : List ℕ) (u : ℕ) → 1 ≤ u → seen (after-all fresh ts
 abbrev pub Full : Windows → Type 0
 Full ws = length (ws .clients) ≡ 32
 
+-- new windows are full, and stay so
+abbrev pub New-full : Type 0
+New-full = Full all-fresh
+
+abbrev pub Stays-full : Type 0
+Stays-full = (ws : Windows) (qs : List Request) → Full ws → Full (windows-after ws qs)
+
 -- no two of the requests have both client and timestamp equal
 abbrev pub Apart : List Request → Type 0
 Apart qs = (i j : ℕ) → i < j → j < length qs → getD qs i no-request .client ≡ getD qs j no-request .client → getD qs i no-request .timestamp ≡ getD qs j no-request .timestamp → ⊥

@@ -3,8 +3,8 @@ ghost use mathlib.Core.Path.{_≡_};
 ghost use mathlib.Core.Bool.{cond};
 ghost use Rattle.window.specs.Clients.{admits, marks};
 ghost use Rattle.window.specs.Deliveries.{delivered};
-use application::interface::Application;
 use crate::windows::Windows;
+use application::interface::Application;
 use wire::records::Request;
 
 // How many requests were applied, whatever code they were answered with, and how many passed over.

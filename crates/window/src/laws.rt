@@ -1,7 +1,7 @@
 // What the definitions are shown to say: a function for each group of laws, whose contract asks for its proof.
 ghost use Rattle.window.specs.Cases.{Window-case, Delivery-case};
 ghost use Rattle.window.specs.Laws.{Mark-adds, Free-unseen, Else-unchanged, Seen-marked};
-ghost use Rattle.window.specs.Laws.{Served-once, Served-stands, Served-ranges, Seen-grows, Seen-served, Served-joins};
+ghost use Rattle.window.specs.Laws.{New-full, Stays-full, Served-once, Served-stands, Served-ranges, Seen-grows, Seen-served, Served-joins};
 ghost use Rattle.window.specs.Laws.{Delivers, Delivery-joins};
 use application::interface::Application;
 
@@ -24,6 +24,8 @@ pub fn windows_hold() -> u8
 
 // Of the requests that are applied: none twice, each of those given, and each in range.
 pub fn served_hold() -> u8
+    ensures full { λ _. ⌜ New-full ⌝ }
+    ensures stays { λ _. ⌜ Stays-full ⌝ }
     ensures once { λ _. ⌜ Served-once ⌝ }
     ensures stands { λ _. ⌜ Served-stands ⌝ }
     ensures ranges { λ _. ⌜ Served-ranges ⌝ }

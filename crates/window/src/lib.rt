@@ -2,6 +2,6 @@
 pub mod delivery;
 pub mod laws;
 mod marking;
-pub mod span;
+mod span;
 pub mod window;
 pub mod windows;

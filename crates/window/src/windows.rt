@@ -1,8 +1,8 @@
 // The windows of the 32 clients.
 ghost use mathlib.Core.Path.{_≡_};
 ghost use Rattle.window.specs.Clients.{all-fresh, window-at, admits, marks};
-use application::interface::LAST_CLIENT;
 use crate::window::Window;
+use application::interface::LAST_CLIENT;
 
 #[derive(Clone, Copy)]
 pub struct Windows {
