@@ -13,7 +13,7 @@ use Rattle.wire.specs.declared.records.Request.{Request}
 use Rattle.window.specs.declared.windows.Windows.{Windows}
 use Rattle.window.specs.Deliveries.{Course, applies, passes, taken, delivered}
 use Rattle.window.specs.Histories.{windows-then, windows-after, served, applied-all}
-use Rattle.window.specs.Laws.{Serves, Delivers, Delivery-joins, resumed, Served-joins}
+use Rattle.window.specs.Laws.{Delivers, Delivery-joins, resumed, Served-joins}
 use Rattle.window.proofs.Turns.{taken-yes, taken-no}
 use Rattle.window.proofs.Serving.{admitted, marking, served-yes, served-no, then-yes, then-no}
 

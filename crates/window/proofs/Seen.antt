@@ -1,17 +1,16 @@
 -- What is seen before and after a mark.
-use mathlib.Core.Path.{_≡_, refl, sym, ap, subst, _∙_}
-use mathlib.Core.Bool.{true, false, cond, _||_}
+use mathlib.Core.Path.{_≡_, refl, sym, ap, _∙_}
+use mathlib.Core.Bool.{true, false, _||_}
 use mathlib.Core.Logic.{inl, inr, _⊎_}
-use Prim.Native.Nat.{ℕ, zero, suc, _+_, _-_, _*_, _/_, _%_, _^_, _<_, _≤_, max}
+use Prim.Native.Nat.{ℕ, zero, suc, _+_, _-_, _/_, _%_, _^_, _<_, _≤_, max}
 use native.Mathlib.Nat.{pow-suc, div-eq-of-lt, div-self, zero-div}
 use native.Mathlib.Omega.{arith}
-use lib.Dec.{eqb, leb, ltb}
+use lib.Dec.{eqb, leb}
 use lib.Bits.{bitOr, or-step, or-shr}
 use lib.Pow.{pow-lt, pow-pos, pow-add, shl-shr, shr-shr}
 use Rattle.std.proofs.shelf.Tests.{cases-lt, cases-eq, cases-order, eq-eqb, ne-eqb, eqb-true, le-leb, lt-leb, or-left, or-right, or-from, cond-both, cond-true, cond-false}
 use Rattle.window.specs.declared.span.Span.{Span}
-use Rattle.window.specs.declared.window.Window.{Window}
-use Rattle.window.specs.Spans.{bit, free, seen, put, up, rise, marked}
+use Rattle.window.specs.Spans.{bit, free, seen, put, up, rise}
 use Rattle.window.specs.Marked.{after, fresh, free-range}
 use Rattle.window.specs.Laws.{Mark-adds, Free-unseen, Else-unchanged}
 use Rattle.window.proofs.Same.{same-window}

@@ -1,6 +1,6 @@
 -- Which requests are applied, and that none is twice.
 use mathlib.Core.Path.{_≡_, refl, sym, ap, subst, _∙_}
-use mathlib.Core.Bool.{Bool, true, false, cond, _&&_, _||_, or-false}
+use mathlib.Core.Bool.{Bool, true, false, _&&_, _||_, or-false}
 use mathlib.Core.List.{List, [], _∷_}
 use mathlib.Core.Logic.{inl, inr, _⊎_}
 use Prim.Native.Nat.{ℕ, zero, suc, _≤_, _<_}
@@ -8,7 +8,7 @@ use native.Mathlib.Omega.{arith}
 use lib.Dec.{eqb, leb}
 use lib.ListN.{length, getD, set, replicate}
 use Rattle.std.proofs.shelf.Lists.{length-set, length-replicate, getD-replicate, getD-past, getD-set-same, getD-set-other}
-use Rattle.std.proofs.shelf.Tests.{cases-bool, cases-eq, cases-lt, cond-true, cond-false, cond-both, and-parts, and-left, and-from, leb-true, eq-eqb, ne-eqb, or-left, or-parts, both-ways}
+use Rattle.std.proofs.shelf.Tests.{cases-bool, cases-eq, cases-lt, cond-true, cond-false, cond-both, and-parts, and-from, leb-true, eq-eqb, ne-eqb, or-left, or-parts, both-ways}
 use Rattle.wire.specs.declared.records.Request.{Request}
 use Rattle.window.specs.declared.window.Window.{Window}
 use Rattle.window.specs.declared.windows.Windows.{Windows}

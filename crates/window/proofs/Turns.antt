@@ -10,6 +10,7 @@ use Rattle.std.proofs.shelf.Tests.{cond-true, cond-false}
 use Rattle.wire.specs.declared.records.Request.{Request}
 use Rattle.window.specs.declared.windows.Windows.{Windows}
 use Rattle.window.specs.Clients.{admits, marks}
+use Rattle.window.specs.Histories.{no-request}
 use Rattle.window.specs.Deliveries.{Course, applies, passes, taken}
 
 module _ {X : Type 0} (next : X → ℕ → ℕ → ℕ → X) (s : Course X) (q : Request) where
@@ -19,13 +20,20 @@ module _ {X : Type 0} (next : X → ℕ → ℕ → ℕ → X) (s : Course X) (q
   pub taken-no : admits (s .windows) (q .client) (q .timestamp) ≡ false → taken next s q ≡ passes next s q
   taken-no is = cond-false (admits (s .windows) (q .client) (q .timestamp)) (applies next s q) (passes next s q) is
 
-  module _ (x : X) (ws : Windows) (n m : ℕ) where
-    pub applied-one : true ≡ admits (s .windows) (q .client) (q .timestamp) → x ≡ next (s .app) (q .client) (q .timestamp) (q .payload) → ws ≡ marks (s .windows) (q .client) (q .timestamp) → n ≡ s .applied + 1 → m ≡ s .passed → record { app = x; windows = ws; applied = n; passed = m } ≡ taken next s q
-    applied-one is a b u v = let t = taken-yes (sym is) in cc
+-- one request more: what came of it, by parts, makes the course one longer
+module _ {X : Type 0} (next : X → ℕ → ℕ → ℕ → X) (from s : Course X) (qs : List Request) (i : ℕ) (x : X) (ws : Windows) (n m : ℕ) where
+  abbrev at : Request
+  at = getD qs i no-request
 
-    pub passed-one : false ≡ admits (s .windows) (q .client) (q .timestamp) → x ≡ s .app → ws ≡ s .windows → n ≡ s .applied → m ≡ s .passed + 1 → record { app = x; windows = ws; applied = n; passed = m } ≡ taken next s q
-    passed-one is a b u v = let t = taken-no (sym is) in cc
+  one-more : (after : Course X) → i < length qs → s ≡ folded (taken next) from (take i qs) → after ≡ taken next s at → after ≡ folded (taken next) from (take (i + 1) qs)
+  one-more after lt e is = is ∙ ap (λ y. taken next y at) e ∙ sym (folded-more (taken next) from qs i no-request lt)
 
--- one request more
-pub one-more : {X : Type 0} (next : X → ℕ → ℕ → ℕ → X) (from : Course X) (qs : List Request) (i : ℕ) (d : Request) (s after : Course X) → i < length qs → s ≡ folded (taken next) from (take i qs) → after ≡ taken next s (getD qs i d) → after ≡ folded (taken next) from (take (i + 1) qs)
-one-more next from qs i d s after lt e is = is ∙ (ap (λ y. taken next y (getD qs i d)) e ∙ sym (folded-more (taken next) from qs i d lt))
+  pub applied-more : i < length qs → s ≡ folded (taken next) from (take i qs) → true ≡ admits (s .windows) (at .client) (at .timestamp) → x ≡ next (s .app) (at .client) (at .timestamp) (at .payload) → ws ≡ marks (s .windows) (at .client) (at .timestamp) → n ≡ s .applied + 1 → m ≡ s .passed → record { app = x; windows = ws; applied = n; passed = m } ≡ folded (taken next) from (take (i + 1) qs)
+  applied-more lt e is a b u v =
+      one-more (record { app = x; windows = ws; applied = n; passed = m }) lt e
+      ((λ j. record { app = a j; windows = b j; applied = u j; passed = v j }) ∙ sym (taken-yes next s at (sym is)))
+
+  pub passed-more : i < length qs → s ≡ folded (taken next) from (take i qs) → false ≡ admits (s .windows) (at .client) (at .timestamp) → x ≡ s .app → ws ≡ s .windows → n ≡ s .applied → m ≡ s .passed + 1 → record { app = x; windows = ws; applied = n; passed = m } ≡ folded (taken next) from (take (i + 1) qs)
+  passed-more lt e is a b u v =
+      one-more (record { app = x; windows = ws; applied = n; passed = m }) lt e
+      ((λ j. record { app = a j; windows = b j; applied = u j; passed = v j }) ∙ sym (taken-no next s at (sym is)))

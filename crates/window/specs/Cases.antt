@@ -1,7 +1,7 @@
 -- A worked case: timestamps 2, 1, 2, 66 and 67 of one client, from base 0.
 use mathlib.Core.Path.{_≡_}
 use mathlib.Core.Bool.{true, false}
-use mathlib.Core.List.{List, [], _∷_}
+use mathlib.Core.List.{[], _∷_}
 use Prim.Native.Nat.{ℕ}
 use Rattle.wire.specs.declared.records.Request.{Request}
 use Rattle.window.specs.declared.window.Window.{Window}

@@ -1,7 +1,7 @@
 use mathlib.Core.Path.{_≡_}
 use Prim.Native.Nat.{_+_}
 use lib.ListN.{take}
-use Rattle.window.specs.Deliveries.{Course, delivered}
+use Rattle.window.specs.Deliveries.{delivered}
 use Rattle.window.proofs.delivery.deliver.Given as given
 
 abbrev pub Inv-loop-q : given.InvT-loop-q
