@@ -2,12 +2,13 @@
 use mathlib.Core.Path.{_≡_, refl, sym, ap, _∙_}
 use mathlib.Core.Bool.{Bool, true, false, cond, _&&_}
 use mathlib.Core.List.{List, [], _∷_, _++_}
-use Prim.Native.Nat.{ℕ, zero, suc, _+_, _-_, _%_, _<_, _≤_}
+use mathlib.Core.Logic.{_⊎_, inl, inr}
+use Prim.Native.Nat.{ℕ, zero, suc, _+_, _-_, _%_, min, _<_, _≤_}
 use native.Mathlib.Omega.{arith}
 use lib.Dec.{ltb, leb, eqb}
-use lib.ListN.{length, getD, set, take, drop}
-use Rattle.std.proofs.shelf.Lists.{at-drop-more, take-more-set}
-use Rattle.std.proofs.shelf.Tests.{cond-true, cond-false, and-parts, leb-true}
+use lib.ListN.{length, getD, set, take, drop, length-drop}
+use Rattle.std.proofs.shelf.Lists.{at-drop-more, take-more-set, take-all, drop-all}
+use Rattle.std.proofs.shelf.Tests.{cond-true, cond-false, and-parts, leb-true, cases-lt}
 use Rattle.std.proofs.shelf.Elements.{all-weaker}
 use Rattle.std.specs.shelf.Lists.{All}
 use Rattle.std.specs.Iters.{folded}
@@ -107,3 +108,25 @@ stables-enough accepts terms rs r p e f =
 
 pub reach-step : (i last : ℕ) (cs : List Claim) → i < length cs → reach i last (drop i cs) ≡ reach (i + 1) (cond (ltb 0 (getD cs i no-claim .epoch)) (i + 1) last) (drop (i + 1) cs)
 reach-step i last cs h = at-drop-more (reach i last) cs i no-claim h
+
+-- as many as there are
+take-capped : {X : Type 0} (k q : ℕ) (xs : List X) → k ≡ min q (length xs) → take k xs ≡ take q xs
+take-capped k q xs e = go (cases-lt (length xs) q)
+  where
+    go : (length xs < q) ⊎ (q ≤ length xs) → take k xs ≡ take q xs
+    go (inl h) = take-all k xs (omega arith) ∙ sym (take-all q xs (omega arith))
+    go (inr h) = let same : k ≡ q = omega arith in ap (λ m. take m xs) same
+
+drop-capped : {X : Type 0} (k q : ℕ) (xs : List X) → k ≡ min q (length xs) → drop k xs ≡ drop q xs
+drop-capped k q xs e = go (cases-lt (length xs) q)
+  where
+    go : (length xs < q) ⊎ (q ≤ length xs) → drop k xs ≡ drop q xs
+    go (inl h) = drop-all k xs (omega arith) ∙ sym (drop-all q xs (omega arith))
+    go (inr h) = let same : k ≡ q = omega arith in ap (λ m. drop m xs) same
+
+pub after-first : {X : Type 0} (q s k : ℕ) (xs : List X) → s ≡ min q (length xs) → k ≡ min q (length xs - s) → take (s + k - s) (drop s xs) ≡ take q (drop q xs)
+after-first q s k xs e f =
+    let less : s + k - s ≡ k = omega arith in
+    ap (λ m. take m (drop s xs)) less
+    ∙ take-capped k q (drop s xs) (f ∙ ap (min q) (sym (length-drop s xs)))
+    ∙ ap (take q) (drop-capped s q xs e)
