@@ -4,6 +4,8 @@ ghost use mathlib.Core.List.{[]};
 ghost use Prim.Native.Nat.{ℕ, _+_, _≤_};
 ghost use lib.ListN.{length, take, drop};
 ghost use Rattle.dossier.specs.Walk.{found, numbers, mark-at, checkpoints, largest, after-stables, walked};
+ghost use Rattle.dossier.specs.Laws.{Admitted};
+ghost use Rattle.std.specs.Results.{Cases};
 use crate::parts::Claim;
 use crate::parts::Opened;
 use crate::stable::StableRule;
@@ -135,6 +137,7 @@ impl<C: SealChecker> Target<'_, C> {
     // What a dossier says, or the index of its first record at fault, missing or surplus.
     pub fn walk(&self, records: &[Sealed]) -> Result<Opened, usize>
         ensures exact { λ r. ⌜ r ≡ walked (accepts (now (now (self .entry) .checker))) (now (self .entry) .terms) (now (records .entry)) ⌝ }
+        ensures judged { λ r. ⌜ Cases r (Admitted (accepts (now (now (self .entry) .checker))) (now (self .entry) .terms) (now (records .entry))) (λ i. i ≤ length (now (records .entry))) ⌝ }
     {
         let place = group(records, 0, self.terms.n, self.terms.q, self)?;
         self.after_stables(records, place)
