@@ -1,26 +1,24 @@
 -- What a walk that came through went through.
-use mathlib.Core.Path.{_≡_, refl, sym, ap, subst, _∙_}
-use mathlib.Core.Bool.{Bool, true, false, cond, _&&_}
-use mathlib.Core.List.{List, [], _∷_, _++_}
+use mathlib.Core.Path.{_≡_, refl, ap, subst}
+use mathlib.Core.Bool.{Bool, true, false, cond}
+use mathlib.Core.List.{List, []}
 use mathlib.Core.Logic.{_⊎_, inl, inr}
-use Prim.Native.Nat.{ℕ, zero, suc, _+_, _-_, _<_, _≤_}
+use Prim.Native.Nat.{ℕ, _+_, _≤_}
 use native.Mathlib.Omega.{arith}
-use lib.Dec.{ltb, leb, eqb}
-use lib.ListN.{length, getD, set, take, drop, length-drop}
-use Rattle.std.proofs.shelf.Tests.{and-parts, eqb-true, eqb-false, ltb-false, leb-true}
+use lib.Dec.{ltb}
+use lib.ListN.{length, take}
+use Rattle.std.proofs.shelf.Tests.{ltb-false}
 use Rattle.std.specs.declared.result.Result.{Result}
 use Rattle.std.specs.declared.result.Result.the-variants.{Ok, Err}
 use Rattle.wire.specs.declared.records.Statement.{Statement}
 use Rattle.wire.specs.declared.records.Sealed.{Sealed}
-use Rattle.group.specs.Group.{grouped, exactly}
-use Rattle.seal.specs.Records.{none, signer-of}
+use Rattle.seal.specs.Records.{signer-of}
 use Rattle.group.specs.Group.{Stood}
 use Rattle.group.proofs.Groups.{stood}
 use Rattle.dossier.specs.declared.parts.Terms.{Terms}
-use Rattle.dossier.specs.declared.parts.Claim.{Claim}
 use Rattle.dossier.specs.declared.tally.Span.{Span}
 use Rattle.dossier.specs.declared.parts.Opened.{Opened}
-use Rattle.dossier.specs.Walk.{onward, largest, mark-at, stable-fits, found, numbers, checkpoints, after-stables, walked}
+use Rattle.dossier.specs.Walk.{onward, largest, mark-at, stable-fits, numbers, checkpoints, walked}
 use Rattle.dossier.proofs.Steps.{stables-enough}
 
 pub never : {A B : Type 0} (i : ℕ) (a : A) → _≡_ {A = Result A ℕ} (Err i) (Ok a) → B

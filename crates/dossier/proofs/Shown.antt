@@ -3,18 +3,18 @@ use mathlib.Core.Path.{_≡_, refl, sym, ap, subst, _∙_}
 use mathlib.Core.Bool.{Bool, true, false, not, cond, _&&_, _||_}
 use mathlib.Core.List.{List, [], _∷_, _++_}
 use mathlib.Core.Logic.{_⊎_, inl, inr}
-use Prim.Native.Nat.{ℕ, zero, suc, _+_, _-_, _%_, _<_, _≤_}
+use Prim.Native.Nat.{ℕ, zero, suc, _+_, _-_, _<_, _≤_}
 use native.Mathlib.Omega.{arith}
-use lib.Dec.{ltb, leb, eqb}
-use lib.ListN.{length, getD, take, drop, length-drop}
-use Rattle.std.proofs.shelf.Tests.{and-parts, eqb-true, eqb-false, ltb-true, ltb-false, leb-true, cases-lt, cond-both, both-ways, cases-bool, true≢false, and-cases, or-parts, or-cases, eq-eqb, not-true}
+use lib.Dec.{ltb, eqb}
+use lib.ListN.{length, getD, take, drop}
+use Rattle.std.proofs.shelf.Tests.{and-parts, eqb-true, eqb-false, ltb-true, ltb-false, cases-lt, cond-both, both-ways, cases-bool, true≢false, and-cases, or-parts, or-cases, eq-eqb, not-true}
 use Rattle.std.proofs.shelf.Lists.{getD-take, getD-drop, length-take-le, append-assoc, append-nil}
-use Rattle.std.proofs.shelf.Elements.{all-getD, all-weaker}
+use Rattle.std.proofs.shelf.Elements.{all-getD}
 use Rattle.std.specs.shelf.Lists.{All}
 use Rattle.std.specs.declared.option.Option.{Option}
 use Rattle.std.specs.declared.option.Option.the-variants.{Some, None}
 use Rattle.std.specs.declared.result.Result.{Result}
-use Rattle.std.specs.declared.result.Result.the-variants.{Ok, Err}
+use Rattle.std.specs.declared.result.Result.the-variants.{Ok}
 use Rattle.wire.specs.declared.records.DigestValue.{DigestValue}
 use Rattle.wire.specs.declared.records.Statement.{Statement}
 use Rattle.wire.specs.Values.{value-of, same-digest}
@@ -30,8 +30,8 @@ use Rattle.dossier.specs.declared.tally.Tally.{Tally}
 use Rattle.dossier.specs.declared.tally.Helds.{Helds}
 use Rattle.dossier.specs.declared.tally.Found.{Found}
 use Rattle.dossier.specs.declared.tally.Span.{Span}
-use Rattle.dossier.specs.Walk.{onward, or-fault, no-claim, blank, asked, last-asked, tallied, held-fits, held-one, helds-from, helds, found, numbers, checkpoints, mark-at}
-use Rattle.dossier.proofs.Passage.{never, Through, through, ok-is, went}
+use Rattle.dossier.specs.Walk.{onward, or-fault, no-claim, blank, asked, last-asked, tallied, held-fits, held-one, helds-from, helds, found, numbers}
+use Rattle.dossier.proofs.Passage.{never, through, ok-is, went}
 
 -- a held epoch and digest that a tally has taken in: no higher than its highest and, at that and without a clash, of its digest
 abbrev pub Agrees : ℕ → DigestValue → Tally → Type 0

@@ -6,8 +6,8 @@ use mathlib.Core.Logic.{_⊎_, inl, inr}
 use Prim.Native.Nat.{ℕ, zero, suc, _+_, _-_, _%_, _<_, _≤_}
 use native.Mathlib.Omega.{arith}
 use lib.Dec.{ltb, leb, eqb}
-use lib.ListN.{length, getD, take, drop, length-drop}
-use Rattle.std.proofs.shelf.Tests.{and-parts, and-from, eqb-true, eq-eqb, ne-eqb, ltb-true, leb-true, le-leb, lt-ltb, cases-lt, cases-bool, cond-both, cond-true, cond-false}
+use lib.ListN.{length, getD, take, drop}
+use Rattle.std.proofs.shelf.Tests.{and-parts, and-from, eqb-true, ne-eqb, ltb-true, leb-true, le-leb, lt-ltb, cases-lt, cases-bool, cond-both, cond-true, cond-false}
 use Rattle.std.proofs.shelf.Lists.{getD-past, length-take-le}
 use Rattle.std.proofs.shelf.Elements.{all-getD, all-from-getD, all-take, all-drop, all-weaker, all-has, all-has-itself}
 use Rattle.std.specs.Iters.{folded}
@@ -30,7 +30,7 @@ use Rattle.group.proofs.Groups as groups
 use Rattle.dossier.specs.declared.parts.Terms.{Terms}
 use Rattle.dossier.specs.declared.parts.Claim.{Claim}
 use Rattle.dossier.specs.declared.parts.Opened.{Opened}
-use Rattle.dossier.specs.Walk.{no-claim, asked, held-fits, larger, largest, mark-at, stable-fits, checkpoints, numbers, walked, reach, top, chosen, checkpoint-group}
+use Rattle.dossier.specs.Walk.{no-claim, asked, held-fits, larger, largest, mark-at, stable-fits, walked, reach, top, chosen, checkpoint-group}
 use Rattle.dossier.specs.Laws.{prepare-by, checkpoint-by, stable-by, held-by, highest-of, digest-of, Genuine, Holds, Said, Sound, Seals-hold, All-accepted, Dossier-sound, Admitted}
 use Rattle.dossier.proofs.Passage.{ok-is, went, Parts, parts}
 use Rattle.dossier.proofs.Shown.{some-is, nothing, exact-is, held-below, Covered, covers, group-covers, Answered, settled, Claimed, Row, Counted, counted, row-at}
@@ -85,9 +85,6 @@ module _ (accepts : Statement → ℕ → Bool) (terms : Terms) (rs : List Seale
   marks-cover : (o : Opened) (w : Parts accepts terms rs o) → Covered accepts terms rs (terms .q) (w .start)
   marks-cover o w = go (went (eqb (o .base) 0) _ _ _ (w .marked))
     where
-      rule : Sealed → Bool
-      rule = exactly accepts 5 0 (o .base) (o .mark)
-
       go : ((eqb (o .base) 0 ≡ true) × (_≡_ {A = Result ℕ ℕ} (Ok (terms .q)) (Ok (w .start))))
           ⊎ ((eqb (o .base) 0 ≡ false) × (grouped signer-of (exactly accepts 5 0 (o .base) (mark-at rs (o .base) (terms .q))) (terms .n) (terms .q) (terms .q) 0 (drop (terms .q) rs) ≡ Ok (w .start)))
           → Covered accepts terms rs (terms .q) (w .start)
@@ -149,9 +146,6 @@ reach-claimed : (i last : ℕ) (cs : List Claim) → (reach i last cs ≡ last) 
 reach-claimed i last [] = inl refl
 reach-claimed i last (c ∷ cs) = go (cases-bool (ltb 0 (c .epoch))) (reach-claimed (i + 1) (cond (ltb 0 (c .epoch)) (i + 1) last) cs)
   where
-    l : ℕ
-    l = cond (ltb 0 (c .epoch)) (i + 1) last
-
     go : (ltb 0 (c .epoch) ≡ true) ⊎ (ltb 0 (c .epoch) ≡ false)
         → (reach (i + 1) (cond (ltb 0 (c .epoch)) (i + 1) last) cs ≡ cond (ltb 0 (c .epoch)) (i + 1) last)
         ⊎ ((i + 1 < reach (i + 1) (cond (ltb 0 (c .epoch)) (i + 1) last) cs) × (1 ≤ getD cs (reach (i + 1) (cond (ltb 0 (c .epoch)) (i + 1) last) cs - (i + 1) - 1) no-claim .epoch))
@@ -162,7 +156,6 @@ reach-claimed i last (c ∷ cs) = go (cases-bool (ltb 0 (c .epoch))) (reach-clai
         inr (omega (arith, here), subst (λ k. 1 ≤ getD (c ∷ cs) k no-claim .epoch) zeroth (ltb-true 0 (c .epoch) t))
     go (inr t) (inl e) = inl (e ∙ cond-false {A = ℕ} (ltb 0 (c .epoch)) (i + 1) last t)
     go t (inr h) =
-        let r : ℕ = reach (i + 1) (cond (ltb 0 (c .epoch)) (i + 1) last) cs in
         let next : suc (reach (i + 1) (cond (ltb 0 (c .epoch)) (i + 1) last) cs - (i + 1) - 1) ≡ reach i last (c ∷ cs) - i - 1 = omega (arith, h .0) in
         inr (omega (arith, h .0), subst (λ k. 1 ≤ getD (c ∷ cs) k no-claim .epoch) next (h .1))
 

@@ -1,6 +1,6 @@
 -- One step of each loop of the walk.
 use mathlib.Core.Path.{_≡_, refl, sym, ap, _∙_}
-use mathlib.Core.Bool.{Bool, true, false, cond, _&&_}
+use mathlib.Core.Bool.{Bool, true, false, cond}
 use mathlib.Core.List.{List, [], _∷_, _++_}
 use mathlib.Core.Logic.{_⊎_, inl, inr}
 use Prim.Native.Nat.{ℕ, zero, suc, _+_, _-_, _%_, min, _<_, _≤_}
@@ -74,9 +74,9 @@ module _ (accepts : Statement → ℕ → Bool) (terms : Terms) (rs ts : List Se
       let less : k ≡ suc k - 1 = omega arith in
       ap (λ m. onward (found accepts terms rs ts s place) (λ f. numbers accepts terms rs ts m (s + 1) (f .next) (cs ++ f .claim ∷ []))) less
 
-  pub numbers-stop : (k s place : ℕ) (cs : List Claim) (r : Result Found ℕ) (i : ℕ) → 0 < k → r ≡ found accepts terms rs ts s place → r ≡ Err i → Err i ≡ numbers accepts terms rs ts k s place cs
-  numbers-stop k s place cs r i h e g =
-      sym (more k s place cs h ∙ ap (λ o. onward o (λ f. numbers accepts terms rs ts (k - 1) (s + 1) (f .next) (cs ++ f .claim ∷ []))) (sym e ∙ g))
+  pub numbers-stop : (k s place : ℕ) (cs : List Claim) (r : Result Found ℕ) (out all : Result Span ℕ) (i j : ℕ) → 0 < k → r ≡ found accepts terms rs ts s place → r ≡ Err i → out ≡ Err j → j ≡ i → numbers accepts terms rs ts k s place cs ≡ all → out ≡ all
+  numbers-stop k s place cs r out all i j h e g eo ej ea =
+      eo ∙ ap Err ej ∙ sym (more k s place cs h ∙ ap (λ o. onward o (λ f. numbers accepts terms rs ts (k - 1) (s + 1) (f .next) (cs ++ f .claim ∷ []))) (sym e ∙ g)) ∙ ea
 
   pub numbers-more : (s k place place″ : ℕ) (cs cs″ : List Claim) (r : Result Found ℕ) (f : Found) → k < 32 → length cs ≡ 32 → r ≡ found accepts terms rs ts (s + k) place → r ≡ Ok f → cs″ ≡ set cs k (f .claim) → place″ ≡ f .next
       → numbers accepts terms rs ts (32 - (k + 1)) (s + (k + 1)) place″ (take (k + 1) cs″) ≡ numbers accepts terms rs ts (32 - k) (s + k) place (take k cs)

@@ -1,12 +1,12 @@
 -- No place and no index of a fault passes the end of the list.
 use mathlib.Core.Path.{_≡_, refl, subst}
-use mathlib.Core.Bool.{Bool, true, false, cond}
+use mathlib.Core.Bool.{Bool}
 use mathlib.Core.List.{List, [], _∷_, _++_}
-use Prim.Native.Nat.{ℕ, zero, suc, _+_, _-_, _<_, _≤_}
+use Prim.Native.Nat.{ℕ, zero, suc, _+_, _≤_}
 use native.Mathlib.Omega.{arith}
 use lib.Dec.{ltb, eqb}
 use lib.ListN.{length, take, drop, length-drop}
-use Rattle.std.proofs.shelf.Tests.{cond-both, ltb-true}
+use Rattle.std.proofs.shelf.Tests.{cond-both}
 use Rattle.std.specs.declared.option.Option.{Option}
 use Rattle.std.specs.declared.option.Option.the-variants.{Some, None}
 use Rattle.std.specs.declared.result.Result.{Result}
@@ -23,7 +23,7 @@ use Rattle.dossier.specs.declared.tally.Tally.{Tally}
 use Rattle.dossier.specs.declared.tally.Helds.{Helds}
 use Rattle.dossier.specs.declared.tally.Found.{Found}
 use Rattle.dossier.specs.declared.tally.Span.{Span}
-use Rattle.dossier.specs.Walk.{onward, or-fault, mark-at, asked, last-asked, blank, stable-fits, quorum-from, held-one, helds-from, helds, found, numbers, checkpoints, largest, after-stables, walked}
+use Rattle.dossier.specs.Walk.{onward, or-fault, mark-at, asked, last-asked, blank, stable-fits, quorum-from, held-one, helds-from, helds, found, numbers, checkpoints, largest, walked}
 use Rattle.dossier.specs.Laws.{Refused-within}
 use Rattle.dossier.proofs.Shown.{one-passed}
 

@@ -1,6 +1,6 @@
 -- Worked cases: n = 4, q = 3, epoch 3; stable numbers 16, 16, 0 from 0, 1, 3.
 use mathlib.Core.Path.{_≡_}
-use mathlib.Core.Bool.{Bool, true, false, not, cond, _&&_}
+use mathlib.Core.Bool.{Bool, cond}
 use mathlib.Core.List.{List, [], _∷_, _++_}
 use Prim.Native.Nat.{ℕ, zero, suc, _+_}
 use lib.Dec.{eqb, leb}
@@ -60,6 +60,18 @@ dossier = opening ++ (at-number 17 2 77 1 50 ++ (backing 2 17 77 ++ (at-number 1
 abbrev pub clashing : List Sealed
 clashing = opening ++ (at-number 17 2 77 2 50 ++ (backing 2 17 77 ++ empty-from 31 18))
 
+-- 0 and 1 name different digests for epoch 1, and 3 holds a higher one
+abbrev pub topped : List Sealed
+topped = opening ++ (held 0 17 1 77 ∷ held 1 17 1 50 ∷ held 3 17 2 60 ∷ (backing 2 17 60 ++ empty-from 31 18))
+
+-- nobody has a stable number above 0 or holds anything: no checkpoints, and three held statements for each number
+abbrev pub three-from : ℕ → ℕ → List Sealed
+three-from zero s = []
+three-from (suc k) s = held 0 s 0 0 ∷ held 1 s 0 0 ∷ held 2 s 0 0 ∷ three-from k (s + 1)
+
+abbrev pub first-change : List Sealed
+first-change = stable 0 0 ∷ stable 1 0 ∷ stable 2 0 ∷ three-from 32 1
+
 abbrev pub judged : List Sealed → Result Opened ℕ
 judged rs = walked fives (record { n = 4; q = 3; epoch = 3 }) rs
 
@@ -77,6 +89,8 @@ seen (Err i) = Err i
 pub record Cases : Type 0 where
   pub records : length dossier ≡ 92
   pub accepted : seen (judged dossier) ≡ Ok (record { base = 16; mark = value-of 9; last = 19; choices = None ∷ Some (value-of 77) ∷ Some (value-of 0) ∷ Some (value-of 90) ∷ None ∷ [] })
+  pub lower-clash : seen (judged topped) ≡ Ok (record { base = 16; mark = value-of 9; last = 17; choices = None ∷ Some (value-of 60) ∷ None ∷ None ∷ None ∷ [] })
+  pub nothing-yet : seen (judged first-change) ≡ Ok (record { base = 0; mark = value-of 0; last = 0; choices = None ∷ None ∷ None ∷ None ∷ None ∷ [] })
   -- the list ends early, or goes on
   pub none-at-all : judged [] ≡ Err 0
   pub missing : judged (take 91 dossier) ≡ Err 91

@@ -1,9 +1,6 @@
 // The held statements of one number.
 ghost use mathlib.Core.Path.{_≡_};
-ghost use Prim.Native.Nat.{ℕ};
-ghost use lib.ListN.{length, drop};
 ghost use Rattle.dossier.specs.Walk.{asked, last-asked, tallied, held-fits, held-one, helds};
-use crate::parts::Terms;
 use crate::tally::Helds;
 use crate::tally::Tally;
 use crate::target::Target;

@@ -1,6 +1,6 @@
 // What an accepted dossier chooses.
 ghost use mathlib.Core.Path.{_≡_};
-ghost use Prim.Native.Nat.{ℕ, _+_, _≤_, min};
+ghost use Prim.Native.Nat.{_≤_, min};
 ghost use lib.ListN.{length};
 ghost use Rattle.dossier.specs.Walk.{reach, top, chosen, checkpoint-group};
 use crate::parts::Claim;

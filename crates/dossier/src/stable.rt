@@ -1,10 +1,7 @@
 // The stable statements, and the base that they give.
 ghost use mathlib.Core.Path.{_≡_};
-ghost use Prim.Native.Nat.{ℕ, max};
 ghost use denote.Ref.{now};
-ghost use lib.ListN.{length, drop};
-ghost use Rattle.dossier.specs.Walk.{stable-fits, larger, largest};
-ghost use Rattle.wire.specs.declared.records.Sealed.{Sealed};
+ghost use Rattle.dossier.specs.Walk.{stable-fits, largest};
 use crate::target::Target;
 use group::rules::Rule;
 use seal::checker::SealChecker;
@@ -16,7 +13,7 @@ use wire::records::Sealed;
 const LAST: u64 = 1_000_000_000_000;
 
 // A stable statement for the new epoch; its seal is tried last.
-pub impl<'a, C: SealChecker> Rule<Sealed> for Target<'a, C> as StableRule {
+pub(crate) impl<'a, C: SealChecker> Rule<Sealed> for Target<'a, C> as StableRule {
     ghost allows = { λ w r. stable-fits (C·SealChecker .accepts (now (w .checker))) (w .terms) r };
 
     fn allowed(&self, x: &Sealed) -> bool {
@@ -31,19 +28,15 @@ pub impl<'a, C: SealChecker> Rule<Sealed> for Target<'a, C> as StableRule {
     }
 }
 
-fn higher(a: u64, b: u64) -> u64
-    ensures { λ r. ⌜ r ≡ max a b ⌝ }
-{
-    if a < b { b } else { a }
-}
-
 // The largest stable number.
 pub(crate) fn base_of(stables: &[Sealed]) -> u64
     ensures { λ r. ⌜ r ≡ largest (now (stables .entry)) ⌝ }
 {
     let mut base = 0;
     for t in stables {
-        base = higher(base, t.statement.number);
+        if base < t.statement.number {
+            base = t.statement.number;
+        }
     }
     base
 }

@@ -1,8 +1,8 @@
 // The walk over a dossier.
 ghost use mathlib.Core.Path.{_≡_};
 ghost use mathlib.Core.List.{[]};
-ghost use Prim.Native.Nat.{ℕ, _+_, _≤_};
-ghost use lib.ListN.{length, take, drop};
+ghost use Prim.Native.Nat.{_+_, _≤_};
+ghost use lib.ListN.{length, take};
 ghost use Rattle.dossier.specs.Walk.{found, numbers, mark-at, checkpoints, largest, after-stables, walked};
 ghost use Rattle.dossier.specs.Laws.{Admitted};
 ghost use Rattle.std.specs.Results.{Cases};

@@ -1,8 +1,7 @@
 use mathlib.Core.Path.{sym, _∙_}
 use native.Mathlib.Omega.{arith}
 use Rattle.std.proofs.shelf.Ways.{tells}
-use Rattle.std.proofs.shelf.Lists.{at-drop-more, at-drop-all}
-use Rattle.seal.specs.Records.{none}
+use Rattle.std.proofs.shelf.Lists.{at-drop-all}
 use Rattle.dossier.specs.Walk.{last-asked}
 use Rattle.dossier.proofs.Steps.{last-step}
 use Rattle.dossier.proofs.held.last_place.Needs as need
