@@ -1,1 +1,3 @@
 pub mod Sketch
+pub mod Global
+pub mod Tables
