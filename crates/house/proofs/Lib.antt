@@ -1,3 +1,5 @@
 pub mod Sketch
 pub mod Global
 pub mod Tables
+pub mod Full
+pub mod Checks
