@@ -77,22 +77,22 @@ module _ (accepts : Statement → ℕ → Bool) (value : List ℕ → DigestValu
   first-bad c s all i [] = None
   first-bad c s all i (r ∷ rs) = cond (bad-request c s (take i all) r) (Some i) (first-bad c s all (i + 1) rs)
 
-  abbrev pub offer-refusal : Core → List Sealed → Sealed → List Request → Option Refusal
-  offer-refusal c outbox p rs =
+  abbrev pub offer-checks : Core → List Sealed → Sealed → List Request → List (Bool × Refusal)
+  offer-checks c outbox p rs =
       let st = p .statement in
-      or-else
-      (first-of (
-        (cramped outbox, Room)
-        ∷ (not (eqb (st .kind) 2) || not (eqb (st .held) 0), Kind)
-        ∷ (leb (size c) (st .signer), Signer)
-        ∷ (c .view .changing || not (eqb (st .epoch) (c .view .epoch)), Epoch)
-        ∷ (not-offered c (st .number), Number)
-        ∷ (isSome (place-at (c .table) (st .number) .proposal), Standing)
-        ∷ (not (owns (size c) (c .view) (st .number) (st .signer)), Authority)
-        ∷ (no-batch-of value (st .digest) rs, BadBatch)
-        ∷ (not (accepts st (p .seal)), Seal)
-        ∷ []))
-      (at-request (first-bad c (st .number) rs 0 rs))
+      (cramped outbox, Room)
+      ∷ (not (eqb (st .kind) 2) || not (eqb (st .held) 0), Kind)
+      ∷ (leb (size c) (st .signer), Signer)
+      ∷ (c .view .changing || not (eqb (st .epoch) (c .view .epoch)), Epoch)
+      ∷ (not-offered c (st .number), Number)
+      ∷ (isSome (place-at (c .table) (st .number) .proposal), Standing)
+      ∷ (not (owns (size c) (c .view) (st .number) (st .signer)), Authority)
+      ∷ (no-batch-of value (st .digest) rs, BadBatch)
+      ∷ (not (accepts st (p .seal)), Seal)
+      ∷ []
+
+  abbrev pub offer-refusal : Core → List Sealed → Sealed → List Request → Option Refusal
+  offer-refusal c outbox p rs = or-else (first-of (offer-checks c outbox p rs)) (at-request (first-bad c (p .statement .number) rs 0 rs))
 
 -- what a controller says when it accepts a proposal
 abbrev pub prepare-of : ℕ → ℕ → ℕ → DigestValue → Statement

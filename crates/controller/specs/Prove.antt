@@ -24,11 +24,16 @@ use Rattle.controller.specs.Offer.{no-batch-of}
 abbrev pub proved-digest : List Sealed → DigestValue
 proved-digest list = getD list 0 none .statement .digest
 
+abbrev pub prove-checks : Core → List Sealed → ℕ → List (Bool × Refusal)
+prove-checks c outbox s = (cramped outbox, Room) ∷ (not (eqb s (c .delivered + 1)) || ltb limit s, Number) ∷ []
+
+abbrev pub proof-checks : (List ℕ → DigestValue) → List Request → List Sealed → List (Bool × Refusal)
+proof-checks value rs list = (no-batch-of value (proved-digest list) rs, BadBatch) ∷ []
+
 abbrev pub prove-refusal : (Statement → ℕ → Bool) → (List ℕ → DigestValue) → Core → List Sealed → ℕ → List Request → List Sealed → Option Refusal
 prove-refusal accepts value c outbox s rs list =
-    or-else (first-of ((cramped outbox, Room) ∷ (not (eqb s (c .delivered + 1)) || ltb limit s, Number) ∷ []))
-    (or-else (at-record (commits-fault accepts (size c) (enough c) s list))
-    (first-of ((no-batch-of value (proved-digest list) rs, BadBatch) ∷ [])))
+    or-else (first-of (prove-checks c outbox s))
+    (or-else (at-record (commits-fault accepts (size c) (enough c) s list)) (first-of (proof-checks value rs list)))
 
 module _ {X : Type 0} (next : X → ℕ → ℕ → ℕ → X) (marked : X → ℕ) where
   abbrev pub prove-effect : Core → X → List Request → Effect X

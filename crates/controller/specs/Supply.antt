@@ -21,15 +21,17 @@ use Rattle.controller.specs.Delivery.{begin}
 use Rattle.controller.specs.Call.{Effect, Step, called, cramped, delivering}
 use Rattle.controller.specs.Offer.{no-batch-of}
 
-abbrev pub supply-refusal : (List ℕ → DigestValue) → Core → List Sealed → ℕ → List Request → Option Refusal
-supply-refusal value c outbox s rs =
+abbrev pub supply-checks : (List ℕ → DigestValue) → Core → List Sealed → ℕ → List Request → List (Bool × Refusal)
+supply-checks value c outbox s rs =
     let p = place-at (c .table) s in
-    first-of (
-      (cramped outbox, Room)
-      ∷ (not (in-window (c .table) s), Number)
-      ∷ (not (isSome (p .proposal)) || isSome (p .batch), Unproposed)
-      ∷ (no-batch-of value (valueOr (p .proposal) (value-of 0)) rs, BadBatch)
-      ∷ [])
+    (cramped outbox, Room)
+    ∷ (not (in-window (c .table) s), Number)
+    ∷ (not (isSome (p .proposal)) || isSome (p .batch), Unproposed)
+    ∷ (no-batch-of value (valueOr (p .proposal) (value-of 0)) rs, BadBatch)
+    ∷ []
+
+abbrev pub supply-refusal : (List ℕ → DigestValue) → Core → List Sealed → ℕ → List Request → Option Refusal
+supply-refusal value c outbox s rs = first-of (supply-checks value c outbox s rs)
 
 module _ {X : Type 0} (next : X → ℕ → ℕ → ℕ → X) (marked : X → ℕ) where
   abbrev pub supply-effect : Core → X → ℕ → List Request → Effect X

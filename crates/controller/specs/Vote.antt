@@ -39,19 +39,21 @@ vote-stands t st =
     cond (eqb (st .kind) 3) (has-ballot (place-at t (st .number) .prepares) (st .signer))
     (cond (eqb (st .kind) 4) (has-ballot (place-at t (st .number) .commits) (st .signer)) (has-ballot (row-at t (st .number)) (st .signer)))
 
-abbrev pub vote-refusal : (Statement → ℕ → Bool) → Core → List Sealed → Sealed → Option Refusal
-vote-refusal accepts c outbox v =
+abbrev pub vote-checks : (Statement → ℕ → Bool) → Core → List Sealed → Sealed → List (Bool × Refusal)
+vote-checks accepts c outbox v =
     let st = v .statement in
-    first-of (
-      (cramped outbox, Room)
-      ∷ (no-vote-kind st, Kind)
-      ∷ (leb (size c) (st .signer), Signer)
-      ∷ (of-epoch (st .kind) && (c .view .changing || not (eqb (st .epoch) (c .view .epoch))), Epoch)
-      ∷ (not-voted c st, Number)
-      ∷ (of-epoch (st .kind) && not (proposes (place-at (c .table) (st .number) .proposal) (st .digest)), Unproposed)
-      ∷ (vote-stands (c .table) st, Standing)
-      ∷ (not (accepts st (v .seal)), Seal)
-      ∷ [])
+    (cramped outbox, Room)
+    ∷ (no-vote-kind st, Kind)
+    ∷ (leb (size c) (st .signer), Signer)
+    ∷ (of-epoch (st .kind) && (c .view .changing || not (eqb (st .epoch) (c .view .epoch))), Epoch)
+    ∷ (not-voted c st, Number)
+    ∷ (of-epoch (st .kind) && not (proposes (place-at (c .table) (st .number) .proposal) (st .digest)), Unproposed)
+    ∷ (vote-stands (c .table) st, Standing)
+    ∷ (not (accepts st (v .seal)), Seal)
+    ∷ []
+
+abbrev pub vote-refusal : (Statement → ℕ → Bool) → Core → List Sealed → Sealed → Option Refusal
+vote-refusal accepts c outbox v = first-of (vote-checks accepts c outbox v)
 
 abbrev pub ballot-of : Sealed → Ballot
 ballot-of v = record { digest = v .statement .digest; seal = v .seal }

@@ -118,10 +118,10 @@ module _ (accepts : Statement → ℕ → Bool) (terms : Terms) where
     -- the claim of s from the records at a place on: held statements and, where the highest epoch is not 0, q prepares of it
     abbrev pub found : List Sealed → ℕ → ℕ → Result Found ℕ
     found ts s place = onward (helds s place ts) (λ g.
-        cond (eqb (g .tally .epoch) 0)
-        (Ok (record { claim = record { epoch = g .tally .epoch; digest = g .tally .digest }; next = g .next }))
-        (onward (quorum-from (exactly accepts 3 (g .tally .epoch) s (g .tally .digest)) (g .next)) (λ p.
-        Ok (record { claim = record { epoch = g .tally .epoch; digest = g .tally .digest }; next = p }))))
+        let claim : Claim = record { epoch = g .tally .epoch; digest = g .tally .digest } in
+        cond (eqb (claim .epoch) 0)
+        (Ok (record { claim = claim; next = g .next }))
+        (onward (quorum-from (exactly accepts 3 (claim .epoch) s (claim .digest)) (g .next)) (λ p. Ok (record { claim = claim; next = p }))))
 
     -- the claims of k numbers from s on, after those that were found
     unfoldable pub numbers : List Sealed → ℕ → ℕ → ℕ → List Claim → Result Span ℕ

@@ -3,3 +3,8 @@ pub mod Global
 pub mod Tables
 pub mod Full
 pub mod Checks
+pub mod Backers
+pub mod Local
+pub mod Flow
+pub mod Calls
+pub mod Changes
