@@ -513,3 +513,80 @@ module _ {X : Type 0} (value : List ℕ → DigestValue) (next : X → ℕ → �
             old : (e s′ : ℕ) (d′ : DigestValue) → Has (commit-by self (c .view .epoch) (st .number) (st .digest) ∷ k .issued) (prepare-by self e s′ d′) → Origin value n (quorum n) honest honest-client Issued Handed AskedFor e s′ d′
             old e s′ d′ (inl h) = absurd (omega (arith, ap (λ (a : Statement). a .kind) h))
             old e s′ d′ (inr h) = full .origin e s′ d′ h
+
+    commit-full : c .view .changing ≡ false → st .epoch ≡ c .view .epoch → st .kind ≡ 4 → st .held ≡ 0 → in-window (c .table) (st .number) ≡ true → proposes (place-at (c .table) (st .number) .proposal) (st .digest) ≡ true
+        → Heard honest Issued st → goal (Vote.commit-table c v) []
+    commit-full steady epoch kind held inside is heard =
+        let s = st .number in
+        let p = place-at (c .table) s in
+        keep-full k full s (committed (st .signer) (Vote.ballot-of v) p) inside refl refl
+        (λ d h. let ok = full .places s d (ap (λ w. cond w (p .proposal) None) inside ∙ h) in
+          record { in-epoch = ok .in-epoch; begun = ok .begun; current = ok .current; commits = λ i x e. cast (ok .in-epoch) (ok .current steady) (ok .commits) i x e; batch = ok .batch })
+        (λ h. absurd (never (st .digest) (sym h ∙ proposed (p .proposal) (st .digest) is)))
+      where
+        cast : (e : ℕ) → e ≡ c .view .epoch
+            → ((i : ℕ) (x : Ballot) → getD (place-at (c .table) (st .number) .commits .of) i None ≡ Some x → Heard honest Issued (commit-by i e (st .number) (x .digest)))
+            → (i : ℕ) (x : Ballot) → getD (set (place-at (c .table) (st .number) .commits .of) (st .signer) (Some (Vote.ballot-of v))) i None ≡ Some x → Heard honest Issued (commit-by i e (st .number) (x .digest))
+        cast e now old i x f = go (cases-eq i (st .signer)) (cases-lt (st .signer) (length (place-at (c .table) (st .number) .commits .of)))
+          where
+            bs : List (Option Ballot)
+            bs = place-at (c .table) (st .number) .commits .of
+
+            is-st : st ≡ commit-by (st .signer) e (st .number) (st .digest)
+            is-st = let ep = epoch ∙ sym now in λ j. record { kind = kind j; signer = st .signer; epoch = ep j; number = st .number; held = held j; digest = st .digest }
+
+            go : (i ≡ st .signer) ⊎ (i ≡ st .signer → ⊥) → (st .signer < length (place-at (c .table) (st .number) .commits .of)) ⊎ (length (place-at (c .table) (st .number) .commits .of) ≤ st .signer) → Heard honest Issued (commit-by i e (st .number) (x .digest))
+            go (inl h) (inl l) =
+                let same : Vote.ballot-of v ≡ x = some-is _ x (sym (getD-set-same (place-at (c .table) (st .number) .commits .of) (st .signer) (Some (Vote.ballot-of v)) None l) ∙ (ap (λ z. getD (set (place-at (c .table) (st .number) .commits .of) (st .signer) (Some (Vote.ballot-of v))) z None) (sym h) ∙ f)) in
+                subst (λ z. Heard honest Issued (commit-by z e (st .number) (x .digest))) (sym h)
+                (subst (λ (z : Ballot). Heard honest Issued (commit-by (st .signer) e (st .number) (z .digest))) same (subst (Heard honest Issued) is-st heard))
+            go (inl h) (inr l) = old i x (sym (ap (λ z. getD z i None) (set-past (place-at (c .table) (st .number) .commits .of) (st .signer) (Some (Vote.ballot-of v)) l)) ∙ f)
+            go (inr h) l = old i x (sym (getD-set-other (place-at (c .table) (st .number) .commits .of) (st .signer) i (Some (Vote.ballot-of v)) None h) ∙ f)
+
+    checkpoint-full : in-window (c .table) (st .number) ≡ true → goal (Vote.checkpoint-table c v) []
+    checkpoint-full inside = go (just-backed (size c) (enough c) (st .digest) (row-at (Vote.with-checkpoint c v) (st .number)))
+      where
+        full1 : F (with-tabled k (Vote.with-checkpoint c v) (k .issued))
+        full1 = table-full k (Vote.with-checkpoint c v) (k .issued) full (full .long) (full .inv) (full .places) (full .bare) (full .origin)
+
+        go : (b : Bool) → goal (cond b (move-to (Vote.with-checkpoint c v) (st .number) (listed (backers (st .digest) (row-at (Vote.with-checkpoint c v) (st .number))))) (Vote.with-checkpoint c v)) []
+        go false = full1
+        go true = moved-full (with-tabled k (Vote.with-checkpoint c v) (k .issued)) (st .number) (listed (backers (st .digest) (row-at (Vote.with-checkpoint c v) (st .number)))) full1 (Tables.window-parts (c .table) (st .number) inside .0)
+
+    pub vote-full : (isOk (Vote.voted next marked accepts (k .core) (k .app) outbox v .result) ≡ true → All (V accepts) (v ∷ [])) → F (grown k (Vote.voted next marked accepts (k .core) (k .app) outbox v))
+    vote-full vouch = go (Vote.vote-refusal accepts (k .core) outbox v) refl
+      where
+        go : (r : Option Refusal) → Vote.vote-refusal accepts (k .core) outbox v ≡ r → F (grown k (called (k .core) (k .app) outbox r (Vote.vote-effect next marked (k .core) (k .app) v)))
+        go (Some r) e = subst F (sym (refused k outbox r (Vote.vote-effect next marked (k .core) (k .app) v))) full
+        go None e =
+            let ps = passed (Vote.vote-checks accepts c outbox v) e in
+            let k1 = or-parts (not (Vote.of-epoch (st .kind) || eqb (st .kind) 5)) _ (ps .1 .0) in
+            let k2 = or-parts (not (eqb (st .held) 0)) _ (k1 .1) in
+            let held : st .held ≡ 0 = eqb-true (st .held) 0 (not-false (eqb (st .held) 0) (k2 .0)) in
+            let inside = not-false (in-window (c .table) (st .number)) (or-parts (not (in-window (c .table) (st .number))) _ (ps .1 .1 .1 .1 .0) .0) in
+            let vouched = vouch (ok-called c (k .app) outbox _ _ e) .0 (not-false (accepts st (v .seal)) (ps .1 .1 .1 .1 .1 .1 .1 .0)) in
+            go-on (with-table c (Vote.vote-table c v)) k (Vote.vote-issued c v)
+            (three (eqb (st .kind) 3) refl (eqb (st .kind) 4) refl held inside vouched (ps .1 .1 .1 .0) (ps .1 .1 .1 .1 .1 .0))
+          where
+            -- the facts of a vote of the epoch
+            now : (b : Bool) → b ≡ true → (b && (c .view .changing || not (eqb (st .epoch) (c .view .epoch)))) ≡ false → (c .view .changing ≡ false) × (st .epoch ≡ c .view .epoch)
+            now b t f =
+                let g = or-parts (c .view .changing) (not (eqb (st .epoch) (c .view .epoch))) (sym (ap (λ z. z && (c .view .changing || not (eqb (st .epoch) (c .view .epoch)))) t) ∙ f) in
+                (g .0, eqb-true _ _ (not-false _ (g .1)))
+
+            named : (b : Bool) → b ≡ true → (b && not (proposes (place-at (c .table) (st .number) .proposal) (st .digest))) ≡ false → proposes (place-at (c .table) (st .number) .proposal) (st .digest) ≡ true
+            named b t f = not-false _ (sym (ap (λ z. z && not (proposes (place-at (c .table) (st .number) .proposal) (st .digest))) t) ∙ f)
+
+            three : (a : Bool) → eqb (st .kind) 3 ≡ a → (b : Bool) → eqb (st .kind) 4 ≡ b → st .held ≡ 0 → in-window (c .table) (st .number) ≡ true → Vouch honest honest-client Issued AskedFor st
+                → (Vote.of-epoch (st .kind) && (c .view .changing || not (eqb (st .epoch) (c .view .epoch)))) ≡ false
+                → (Vote.of-epoch (st .kind) && not (proposes (place-at (c .table) (st .number) .proposal) (st .digest))) ≡ false
+                → goal (cond a (Vote.prepare-table c v) (cond b (Vote.commit-table c v) (Vote.checkpoint-table c v))) (cond a (Vote.prepare-issued c v) [])
+            three true is b is4 held inside vouched ep prop =
+                let of : Vote.of-epoch (st .kind) ≡ true = ap (λ z. z || eqb (st .kind) 4) is in
+                prepare-full (now (Vote.of-epoch (st .kind)) of ep .0) inside (named (Vote.of-epoch (st .kind)) of prop)
+            three false is true is4 held inside vouched ep prop =
+                let of : Vote.of-epoch (st .kind) ≡ true = (λ i. is i || is4 i) in
+                let kind : st .kind ≡ 4 = eqb-true (st .kind) 4 is4 in
+                let g = now (Vote.of-epoch (st .kind)) of ep in
+                commit-full (g .0) (g .1) kind held inside (named (Vote.of-epoch (st .kind)) of prop) (λ hon. vouched .vote (omega (arith, kind)) (omega (arith, kind)) hon)
+            three false is false is4 held inside vouched ep prop = checkpoint-full inside
