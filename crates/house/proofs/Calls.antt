@@ -77,7 +77,7 @@ never x e = let z : _≡_ {A = ℕ} 0 1 = cc in omega arith
 never-some : {A : Type 0} (x : A) → _≡_ {A = Option A} (Some x) None → ⊥
 never-some x e = let z : _≡_ {A = ℕ} 0 1 = cc in omega arith
 
-none-of-none : (m i : ℕ) → _≡_ {A = Option Ballot} (getD (replicate m None) i None) None
+pub none-of-none : (m i : ℕ) → _≡_ {A = Option Ballot} (getD (replicate m None) i None) None
 none-of-none zero i = refl
 none-of-none (suc m) zero = refl
 none-of-none (suc m) (suc i) = none-of-none m i

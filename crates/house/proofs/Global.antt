@@ -1,10 +1,11 @@
 -- From what holds of each honest controller by itself to the house: a quorum of commits settles a number.
 use mathlib.Core.Path.{_≡_, refl, sym, ap, subst, _∙_}
-use mathlib.Core.Bool.{Bool, true, false}
+use mathlib.Core.Bool.{Bool, true, false, _&&_}
 use mathlib.Core.List.{List}
 use mathlib.Core.Logic.{_⊎_, inl, inr}
 use Prim.Native.Nat.{ℕ, zero, suc, _+_, _≤_, _<_}
 use native.Mathlib.Omega.{arith}
+use lib.Dec.{leb}
 use Rattle.std.proofs.shelf.Tests.{cases-order, cases-lt}
 use Rattle.wire.specs.declared.records.DigestValue.{DigestValue}
 use Rattle.wire.specs.declared.records.Statement.{Statement}
@@ -16,12 +17,16 @@ use Rattle.dossier.specs.Laws.{prepare-by, stable-by, held-by, highest-of, dige
 use Rattle.house.specs.Runs.{Has}
 use Rattle.house.proofs.Sketch.{Sketch, Seen, Crossed, Inv, commit-by}
 
+-- the kinds of statements that controllers issue: prepare, commit, checkpoint, stable, held
+abbrev pub is-vote : ℕ → Bool
+is-vote kind = leb 3 kind && leb kind 7
+
 -- all honest controllers, and that what was issued under the name of one of them it issued
 pub record Locals (n q : ℕ) (honest : ℕ → Bool) (Issued : Statement → Type 0) : Type 0 where
   pub sketch : ℕ → Sketch
   pub issued : ℕ → List Statement
   pub inv : (k : ℕ) → honest k ≡ true → Inv n q k honest Issued (sketch k) (issued k)
-  pub own : (a : Statement) → honest (a .signer) ≡ true → Issued a → Has (issued (a .signer)) a
+  pub own : (a : Statement) → honest (a .signer) ≡ true → is-vote (a .kind) ≡ true → Issued a → Has (issued (a .signer)) a
 
 module _ (n f q : ℕ) (honest : ℕ → Bool) (trusty : Trusty n f q honest) (Issued : Statement → Type 0) (L : Locals n q honest Issued) where
   -- a quorum of commits
@@ -40,14 +45,14 @@ module _ (n f q : ℕ) (honest : ℕ → Bool) (trusty : Trusty n f q honest) (I
   kept : (x : Seen n q honest Issued) (e s : ℕ) (d : DigestValue) → CQ e s d → e < x .target → x .o .base < s → Stays e s d (x .target) → (s ≤ top (x .o)) × (digest-of (x .o) s ≡ d)
   kept x e s d a lt above ih =
       let w = common a (x .sound .signers) in
-      go (w .0) (w .1) (L .own (commit-by (w .0) e s d) (w .1) (w .2)) (w .3)
+      go (w .0) (w .1) (L .own (commit-by (w .0) e s d) (w .1) refl (w .2)) (w .3)
     where
       found : 1 ≤ e → e ≤ highest-of (x .o) s → (s ≤ top (x .o)) × (digest-of (x .o) s ≡ d)
       found begun he =
           let w = common a (x .sound .claim-backed s above (omega arith)) in
           let j = w .0 in
-          let c = L .own (commit-by j e s d) (w .1) (w .2) in
-          let p = L .own (prepare-by j (highest-of (x .o) s) s (digest-of (x .o) s)) (w .1) (w .3) in
+          let c = L .own (commit-by j e s d) (w .1) refl (w .2) in
+          let p = L .own (prepare-by j (highest-of (x .o) s) s (digest-of (x .o) s)) (w .1) refl (w .3) in
           (x .sound .claim-within s above (omega arith), same j (w .1) c p (cases-order e (highest-of (x .o) s)))
         where
           same : (j : ℕ) → honest j ≡ true → Has (L .issued j) (commit-by j e s d) → Has (L .issued j) (prepare-by j (highest-of (x .o) s) s (digest-of (x .o) s))
@@ -59,14 +64,14 @@ module _ (n f q : ℕ) (honest : ℕ → Bool) (trusty : Trusty n f q honest) (I
 
       go : (i : ℕ) → honest i ≡ true → Has (L .issued i) (commit-by i e s d) → Said Issued (x .target) i (x .o) → (s ≤ top (x .o)) × (digest-of (x .o) s ≡ d)
       go i hon c said =
-          let st = L .own (stable-by i (x .target) (said .m)) hon (said .stable) in
+          let st = L .own (stable-by i (x .target) (said .m)) hon refl (said .stable) in
           far (L .inv i hon .commit-old e s d c .0) (L .inv i hon .kept e s d (x .target) (said .m) c st lt)
         where
           far : 1 ≤ e → (s ≤ said .m) ⊎ ((s ≤ said .m + 32) × ((he : ℕ) (d′ : DigestValue) → Has (L .issued i) (held-by i (x .target) s he d′) → e ≤ he)) → (s ≤ top (x .o)) × (digest-of (x .o) s ≡ d)
           far begun (inl h) = absurd (omega (arith, said .low))
           far begun (inr h) =
               let held = said .held s above (h .0) in
-              let mine = L .own (held-by i (x .target) s (held .e) (held .d)) hon (held .issued) in
+              let mine = L .own (held-by i (x .target) s (held .e) (held .d)) hon refl (held .issued) in
               found begun (omega (arith, held .no-higher, h .1 (held .e) (held .d) mine))
 
   -- by strong induction on the later epoch, which is below the bound
@@ -85,8 +90,8 @@ module _ (n f q : ℕ) (honest : ℕ → Bool) (trusty : Trusty n f q honest) (I
   one-digest s e d e′ d′ a b =
       let w = common a b in
       let k = w .0 in
-      let c = L .own (commit-by k e s d) (w .1) (w .2) in
-      let c′ = L .own (commit-by k e′ s d′) (w .1) (w .3) in
+      let c = L .own (commit-by k e s d) (w .1) refl (w .2) in
+      let c′ = L .own (commit-by k e′ s d′) (w .1) refl (w .3) in
       go k (w .1) c c′ (cases-order e e′)
     where
       go : (k : ℕ) → honest k ≡ true → Has (L .issued k) (commit-by k e s d) → Has (L .issued k) (commit-by k e′ s d′) → (e ≡ e′) ⊎ ((e < e′) ⊎ (e′ < e)) → d ≡ d′
@@ -108,10 +113,10 @@ module _ (n f q : ℕ) (honest : ℕ → Bool) (trusty : Trusty n f q honest) (I
         go (inr (inl h)) ih = inr h
         go (inr (inr h)) ih =
             let w = common (h .2) (h .2) in
-            ih (w .0) (h .0) (h .1) (w .1) (L .own (prepare-by (w .0) (h .0) s d) (w .1) (w .2))
+            ih (w .0) (h .0) (h .1) (w .1) (L .own (prepare-by (w .0) (h .0) s d) (w .1) refl (w .2))
 
     pub offered : (e s : ℕ) (d : DigestValue) → CQ e s d → Offered d ⊎ (d ≡ empty)
     offered e s d a =
         let w = common a a in
-        let c = L .own (commit-by (w .0) e s d) (w .1) (w .2) in
+        let c = L .own (commit-by (w .0) e s d) (w .1) refl (w .2) in
         down (suc e) (w .0) e s d (omega arith) (w .1) (L .inv (w .0) (w .1) .commit-prepared e s d c)

@@ -8,3 +8,4 @@ pub mod Local
 pub mod Flow
 pub mod Calls
 pub mod Changes
+pub mod Whole
