@@ -9,3 +9,4 @@ pub mod Flow
 pub mod Calls
 pub mod Changes
 pub mod Whole
+pub mod OneLog

@@ -50,7 +50,7 @@ module _ {X : Type 0} (value : List ℕ → DigestValue) (next : X → ℕ → �
 abbrev pub One-log-holds : {X : Type 0} → (List ℕ → DigestValue) → (X → ℕ → ℕ → ℕ → X) → (X → ℕ) → X → Type 0
 One-log-holds value next marked start =
     (n : ℕ) → allowed n ≡ true
-    → (honest honest-client : ℕ → Bool) → count (λ i. not (honest i)) n ≤ faults n → ((k : ℕ) → honest k ≡ true → k < n)
+    → (honest honest-client : ℕ → Bool) → count (λ i. not (honest i)) n ≤ faults n
     → (houses : ℕ → House) → ((k : ℕ) → honest k ≡ true → (houses k .n ≡ n) × (houses k .own ≡ k))
     → (run : List Event) → Seals-hold value next marked start houses honest honest-client run → Digests-differ value honest run
     → One-log value next marked start houses honest honest-client run
