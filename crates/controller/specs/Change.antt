@@ -89,13 +89,15 @@ abbrev pub undelivered : Option ℕ → ℕ → Bool
 undelivered None d = true
 undelivered (Some last) d = ltb d last
 
+abbrev pub turn-checks : Core → List Sealed → List (Bool × Refusal)
+turn-checks c outbox =
+    (cramped outbox, Room)
+    ∷ (c .view .changing || undelivered (c .view .last) (c .delivered), Unfinished)
+    ∷ (last-epoch (c .view .epoch), LastEpoch)
+    ∷ []
+
 abbrev pub turn-refusal : Core → List Sealed → Option Refusal
-turn-refusal c outbox =
-    first-of (
-      (cramped outbox, Room)
-      ∷ (c .view .changing || undelivered (c .view .last) (c .delivered), Unfinished)
-      ∷ (last-epoch (c .view .epoch), LastEpoch)
-      ∷ [])
+turn-refusal c outbox = first-of (turn-checks c outbox)
 
 -- the first number after the last
 abbrev pub after-last : Option ℕ → ℕ

@@ -46,19 +46,21 @@ module _ (accepts : Statement → ℕ → Bool) where
   abbrev pub opened : Core → Sealed → List Sealed → Result Opened ℕ
   opened c new records = walked accepts (terms-of c (new .statement)) records
 
+  abbrev pub enter-checks : Core → List Sealed → Sealed → List (Bool × Refusal)
+  enter-checks c outbox new =
+      let st = new .statement in
+      (cramped outbox, Room)
+      ∷ (not (eqb (st .kind) 8) || not (eqb (st .held) 0), Kind)
+      ∷ (leb (size c) (st .signer), Signer)
+      ∷ (stale (c .view) (st .epoch), Epoch)
+      ∷ (no-set-of (size c) st, Authority)
+      ∷ (not (accepts st (new .seal)), Seal)
+      ∷ []
+
   abbrev pub enter-refusal : Core → List Sealed → Sealed → Result Opened ℕ → Option Refusal
   enter-refusal c outbox new walk =
-      let st = new .statement in
-      or-else
-      (first-of (
-        (cramped outbox, Room)
-        ∷ (not (eqb (st .kind) 8) || not (eqb (st .held) 0), Kind)
-        ∷ (leb (size c) (st .signer), Signer)
-        ∷ (stale (c .view) (st .epoch), Epoch)
-        ∷ (no-set-of (size c) st, Authority)
-        ∷ (not (accepts st (new .seal)), Seal)
-        ∷ []))
-      (elim walk [ Err i ↦ Some (Record i) | Ok o ↦ cond (eqb (st .number) (o .base)) None (Some Number) ])
+      or-else (first-of (enter-checks c outbox new))
+      (elim walk [ Err i ↦ Some (Record i) | Ok o ↦ cond (eqb (new .statement .number) (o .base)) None (Some Number) ])
 
 -- checkpoints as votes
 abbrev pub as-vote : Sealed → Vote

@@ -34,11 +34,11 @@ use Rattle.controller.specs.declared.refusal.Refusal.{Refusal}
 use Rattle.controller.specs.declared.refusal.Refusal.the-variants.{Room, Kind, Signer, Epoch, Number, Authority, Seal, Record, Unfinished, LastEpoch}
 use Rattle.controller.specs.Leaders.{everyone}
 use Rattle.controller.specs.Call.{Effect, called, cramped}
-use Rattle.controller.specs.Change.{held-for, give-up-refusal, give-up-effect, gave-up, last-epoch, undelivered, after-last, joined, turn-refusal, turn-effect, took-turn}
+use Rattle.controller.specs.Change.{held-for, give-up-refusal, give-up-effect, gave-up, last-epoch, undelivered, after-last, joined, turn-checks, turn-refusal, turn-effect, took-turn}
 use Rattle.controller.specs.Refusals.{first-of}
 use Rattle.controller.specs.State.{size, enough}
 use Rattle.controller.specs.Offer.{prepare-of}
-use Rattle.controller.specs.Enter.{stale, no-set-of, terms-of, opened, enter-refusal, base-proof, choices, enter-effect, enter-walked, entered}
+use Rattle.controller.specs.Enter.{stale, no-set-of, terms-of, opened, enter-checks, enter-refusal, base-proof, choices, enter-effect, enter-walked, entered}
 use Rattle.quorum.specs.Sizes.{quorum}
 use Rattle.quorum.specs.Sets.{Backed}
 use Rattle.seal.specs.Records.{signer-of}
@@ -89,17 +89,6 @@ enter-bare t cs s l w i x h =
 refusal-none : (r : Refusal) → _≡_ {A = Option Refusal} (Some r) None → ⊥
 refusal-none r e = nothing r (sym e)
 
-abbrev enter-checks : (Statement → ℕ → Bool) → Core → List Sealed → Sealed → List (Bool × Refusal)
-enter-checks accepts c outbox new =
-    let st = new .statement in
-    (cramped outbox, Room)
-    ∷ (not (eqb (st .kind) 8) || not (eqb (st .held) 0), Kind)
-    ∷ (leb (size c) (st .signer), Signer)
-    ∷ (stale (c .view) (st .epoch), Epoch)
-    ∷ (no-set-of (size c) st, Authority)
-    ∷ (not (accepts st (new .seal)), Seal)
-    ∷ []
-
 -- WHAT IS HELD
 
 abbrev told : Option Certificate → DigestValue
@@ -127,13 +116,6 @@ module _ {X : Type 0} (value : List ℕ → DigestValue) (next : X → ℕ → �
   nothing-more c x issued log f = subst (λ l. F (record { core = c; app = x; issued = issued; log = l })) (sym (append-nil log)) f
 
   -- TURN
-
-  abbrev turn-checks : Core → List Sealed → List (Bool × Refusal)
-  turn-checks c outbox =
-      (cramped outbox, Room)
-      ∷ (c .view .changing || undelivered (c .view .last) (c .delivered), Unfinished)
-      ∷ (last-epoch (c .view .epoch), LastEpoch)
-      ∷ []
 
   turn-step : (outbox : List Sealed) (c : Core) (x : X) → Long (c .table) → turn-refusal c outbox ≡ None → Turns (sketch-of c) (sketch-of (turn-effect c x .core))
   turn-step outbox c x long e = ended (c .view .last) refl (unfinished .1)

@@ -1,0 +1,5 @@
+mod Basics
+mod Ordering
+mod Changing
+mod Catching
+mod Walk
