@@ -292,9 +292,9 @@ module _ {X : Type 0} (value : List ℕ → DigestValue) (next : X → ℕ → �
             batch = λ b h. subst (λ y. Batch-ok value Handed d (requests-of y)) (some-is (stored rs) b h) (subst (Batch-ok value Handed d) (sym (stored-back rs few)) ok);
           }) in
           let node = table-full k t (prepare-by self (c .view .epoch) s d ∷ k .issued) full (Tables.with-long (c .table) s _ (full .long)) inv
-              (new-places k full s (filled d (Some (stored rs)) (place-at (c .table) s)) inside place)
-              (new-bare k full s (filled d (Some (stored rs)) (place-at (c .table) s)) inside (λ h. absurd (never-some d h)))
-              (origin d (record { rs = rs; digest = ok .digest; handed = got; few = few; asked = asked })) in
+          (new-places k full s (filled d (Some (stored rs)) (place-at (c .table) s)) inside place)
+          (new-bare k full s (filled d (Some (stored rs)) (place-at (c .table) s)) inside (λ h. absurd (never-some d h)))
+          (origin d (record { rs = rs; digest = ok .digest; handed = got; few = few; asked = asked })) in
           subst (λ l. F (record { core = with-table c t; app = k .app; issued = prepare-by (c .house .own) (c .view .epoch) s d ∷ k .issued; log = l })) (sym (append-nil (k .log)))
           (subst (λ is. F (record { core = with-table c t; app = k .app; issued = is; log = k .log })) mine node)
         where
@@ -330,16 +330,16 @@ module _ {X : Type 0} (value : List ℕ → DigestValue) (next : X → ℕ → �
           let q = supplied (stored rs) p in
           let filled : (d : DigestValue) → p .proposal ≡ Some d → Tables.filled-of (c .table) s ≡ Some d = λ d h. ap (λ w. cond w (p .proposal) None) inside ∙ h in
           let place : (d : DigestValue) → p .proposal ≡ Some d → P c s q d = λ d h.
-              let ok = full .places s d (filled d h) in
-              let is : valueOr (p .proposal) (value-of 0) ≡ d = ap (λ o. valueOr o (value-of 0)) h in
-              let of = subst (λ z. Batch-ok value Handed z rs) is (batch-ok value Handed (valueOr (p .proposal) (value-of 0)) rs bad got) in
-              record {
-                in-epoch = ok .in-epoch;
-                begun = ok .begun;
-                current = ok .current;
-                commits = ok .commits;
-                batch = λ b g. subst (λ y. Batch-ok value Handed d (requests-of y)) (some-is (stored rs) b g) (subst (Batch-ok value Handed d) (sym (stored-back rs few)) of);
-              } in
+          let ok = full .places s d (filled d h) in
+          let is : valueOr (p .proposal) (value-of 0) ≡ d = ap (λ o. valueOr o (value-of 0)) h in
+          let of = subst (λ z. Batch-ok value Handed z rs) is (batch-ok value Handed (valueOr (p .proposal) (value-of 0)) rs bad got) in
+          record {
+            in-epoch = ok .in-epoch;
+            begun = ok .begun;
+            current = ok .current;
+            commits = ok .commits;
+            batch = λ b g. subst (λ y. Batch-ok value Handed d (requests-of y)) (some-is (stored rs) b g) (subst (Batch-ok value Handed d) (sym (stored-back rs few)) of);
+          } in
           go-on (with-table c (supply-at (c .table) s (stored rs))) k [] (keep-full k full s q inside refl refl place (full .bare s inside))
 
   -- PROVE
@@ -502,12 +502,12 @@ module _ {X : Type 0} (value : List ℕ → DigestValue) (next : X → ℕ → �
             } in
             let inv = Local.certifies-inv n (quorum n) self honest Issued S R s d (k .issued) step (full1 .inv) in
             let place : (z : DigestValue) → p2 .proposal ≡ Some z → P c s p2 z = λ z e.
-                let ok = full1 .places s z (ap (λ w. cond w (p1 .proposal) None) inside1 ∙ e) in
-                record { in-epoch = ok .in-epoch; begun = ok .begun; current = ok .current; commits = ok .commits; batch = ok .batch } in
+            let ok = full1 .places s z (ap (λ w. cond w (p1 .proposal) None) inside1 ∙ e) in
+            record { in-epoch = ok .in-epoch; begun = ok .begun; current = ok .current; commits = ok .commits; batch = ok .batch } in
             let node = table-full (with-tabled k t1 (k .issued)) t2 (commit-by self (c .view .epoch) s d ∷ k .issued) full1 (Tables.with-long t1 s p2 (full1 .long)) inv
-                (new-places (with-tabled k t1 (k .issued)) full1 s p2 inside1 place)
-                (new-bare (with-tabled k t1 (k .issued)) full1 s p2 inside1 (full1 .bare s inside1))
-                (λ e s′ d′ h. old e s′ d′ h) in
+            (new-places (with-tabled k t1 (k .issued)) full1 s p2 inside1 place)
+            (new-bare (with-tabled k t1 (k .issued)) full1 s p2 inside1 (full1 .bare s inside1))
+            (λ e s′ d′ h. old e s′ d′ h) in
             subst (λ i. F (record { core = with-table c t2; app = k .app; issued = commit-by i (c .view .epoch) s d ∷ k .issued; log = k .log })) (sym (full .own)) node
           where
             old : (e s′ : ℕ) (d′ : DigestValue) → Has (commit-by self (c .view .epoch) (st .number) (st .digest) ∷ k .issued) (prepare-by self e s′ d′) → Origin value n (quorum n) honest honest-client Issued Handed AskedFor e s′ d′
@@ -521,7 +521,7 @@ module _ {X : Type 0} (value : List ℕ → DigestValue) (next : X → ℕ → �
         let p = place-at (c .table) s in
         keep-full k full s (committed (st .signer) (Vote.ballot-of v) p) inside refl refl
         (λ d h. let ok = full .places s d (ap (λ w. cond w (p .proposal) None) inside ∙ h) in
-          record { in-epoch = ok .in-epoch; begun = ok .begun; current = ok .current; commits = λ i x e. cast (ok .in-epoch) (ok .current steady) (ok .commits) i x e; batch = ok .batch })
+        record { in-epoch = ok .in-epoch; begun = ok .begun; current = ok .current; commits = λ i x e. cast (ok .in-epoch) (ok .current steady) (ok .commits) i x e; batch = ok .batch })
         (λ h. absurd (never (st .digest) (sym h ∙ proposed (p .proposal) (st .digest) is)))
       where
         cast : (e : ℕ) → e ≡ c .view .epoch

@@ -156,8 +156,8 @@ module _ {X : Type 0} (value : List ℕ → DigestValue) (next : X → ℕ → �
   one-full c k f rs full ok =
       let more = more-of c f rs in
       let g = push-full (flow-node c k f) rs ((f .issued ++ more) ++ k .issued) full ok
-          (λ a h. keep a (has-append (f .issued) (k .issued) a h))
-          (λ a h. new a (has-append (f .issued ++ more) (k .issued) a h)) in
+      (λ a h. keep a (has-append (f .issued) (k .issued) a h))
+      (λ a h. new a (has-append (f .issued ++ more) (k .issued) a h)) in
       subst (λ l. F (record {
         core = record { house = c .house; view = c .view; table = c .table; delivered = f .delivered + 1; windows = delivered next (f .app) (f .windows) rs .windows };
         app = delivered next (f .app) (f .windows) rs .app;

@@ -103,7 +103,7 @@ module _ (n f q : ℕ) (honest : ℕ → Bool) (trusty : Trusty n f q honest) (I
   -- where a digest comes from: an offer, or nothing; by descent through the epochs
   module _ (Offered : DigestValue → Type 0) (empty : DigestValue)
       (origin : (k e s : ℕ) (d : DigestValue) → honest k ≡ true → Has (L .issued k) (prepare-by k e s d)
-          → Offered d ⊎ ((d ≡ empty) ⊎ ((e* : ℕ) × (e* < e) × Backed n q honest (λ i. Issued (prepare-by i e* s d))))) where
+      → Offered d ⊎ ((d ≡ empty) ⊎ ((e* : ℕ) × (e* < e) × Backed n q honest (λ i. Issued (prepare-by i e* s d))))) where
     down : (bound k e s : ℕ) (d : DigestValue) → e < bound → honest k ≡ true → Has (L .issued k) (prepare-by k e s d) → Offered d ⊎ (d ≡ empty)
     down zero k e s d lt hon p = absurd (omega arith)
     down (suc bound) k e s d lt hon p = go (origin k e s d hon p) (λ i e* l o h. down bound i e* s d (omega arith) o h)
