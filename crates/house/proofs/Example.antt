@@ -42,20 +42,43 @@ lie older kind low = record { request = λ e h. absurd (omega (arith, e)); vote 
 
 seals : Runs.Seals-hold Example.value Example.next Example.marked 0 Example.houses Example.honest Example.honest-client Example.run
 unfolding Runs.node Runs.after Runs.delivered-upto allowed faults quorum grouped new-table rise deliver-one deliver-ready same-digest
-seals =
-    (λ _ _. (λ _. vote _ 4 0 (lit≤ tt) (inl refl), (λ _. vote _ 4 1 (lit≤ tt) (inl refl), (λ _. lie _ 4 (lit≤ tt), tt))),
-    (λ _ _. (λ _. lie _ 4 (lit≤ tt), tt),
-    (λ _ _. (λ _. vote _ 4 1 (lit≤ tt) (inl refl), tt),
-    (λ _ _. (λ _. vote _ 4 0 (lit≤ tt) (inl refl), tt),
-    (λ _ _. (λ _. lie _ 3 (lit≤ tt), tt),
-    (λ _ _. (λ _. vote _ 3 1 (lit≤ tt) (inl refl), tt),
-    (λ _ _. (λ _. vote _ 3 0 (lit≤ tt) (inr (inl refl)), tt),
-    (λ _ _. (λ _. lie _ 3 (lit≤ tt), tt),
-    (λ _ _. (λ _. vote _ 3 1 (lit≤ tt) (inl refl), tt),
-    (λ _ _. (λ _. vote _ 3 0 (lit≤ tt) (inl refl), tt),
-    (λ _ _. (λ _. proposal _, (λ _. request _ (inl refl), tt)),
-    (λ _ _. (λ _. proposal _, (λ _. request _ (inl refl), tt)),
-    tt))))))))))))
+seals = (
+  λ _ _. (λ _. vote _ 4 0 (lit≤ tt) (inl refl), (λ _. vote _ 4 1 (lit≤ tt) (inl refl), (λ _. lie _ 4 (lit≤ tt), tt))),
+  (
+    λ _ _. (λ _. lie _ 4 (lit≤ tt), tt),
+    (
+      λ _ _. (λ _. vote _ 4 1 (lit≤ tt) (inl refl), tt),
+      (
+        λ _ _. (λ _. vote _ 4 0 (lit≤ tt) (inl refl), tt),
+        (
+          λ _ _. (λ _. lie _ 3 (lit≤ tt), tt),
+          (
+            λ _ _. (λ _. vote _ 3 1 (lit≤ tt) (inl refl), tt),
+            (
+              λ _ _. (λ _. vote _ 3 0 (lit≤ tt) (inr (inl refl)), tt),
+              (
+                λ _ _. (λ _. lie _ 3 (lit≤ tt), tt),
+                (
+                  λ _ _. (λ _. vote _ 3 1 (lit≤ tt) (inl refl), tt),
+                  (
+                    λ _ _. (λ _. vote _ 3 0 (lit≤ tt) (inl refl), tt),
+                    (
+                      λ _ _. (λ _. proposal _, (λ _. request _ (inl refl), tt)),
+                      (
+                        λ _ _. (λ _. proposal _, (λ _. request _ (inl refl), tt)),
+                        tt,
+                      ),
+                    ),
+                  ),
+                ),
+              ),
+            ),
+          ),
+        ),
+      ),
+    ),
+  ),
+)
 
 -- a run that hands in only one batch
 abbrev Only : List Request → List Runs.Event → Type 0

@@ -11,3 +11,4 @@ pub mod Changes
 pub mod Whole
 pub mod OneLog
 pub mod Example
+pub mod Blunders

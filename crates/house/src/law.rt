@@ -1,6 +1,7 @@
 // The law above the calls.
 ghost use Rattle.house.specs.Law.{One-log-holds};
 ghost use Rattle.house.specs.Example.{Premises-hold};
+ghost use Rattle.house.specs.Blunders.{Blunders-show};
 use application::interface::Application;
 use digest::interface::Digest;
 
@@ -14,6 +15,13 @@ pub fn one_log_holds<D: Digest, A: Application>(digest: &D, start: &A) -> u8
 // The premises of one log hold of a run that delivers: they are not empty.
 pub fn premises_hold() -> u8
     ensures { λ _. ⌜ Premises-hold ⌝ }
+{
+    0
+}
+
+// Choosing the most frequent claim, or counting one less than a quorum, loses what was committed.
+pub fn blunders_show() -> u8
+    ensures { λ _. ⌜ Blunders-show ⌝ }
 {
     0
 }
