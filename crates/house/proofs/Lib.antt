@@ -10,3 +10,5 @@ pub mod Calls
 pub mod Changes
 pub mod Whole
 pub mod OneLog
+pub mod Example
+pub mod Blunders

@@ -1,2 +1,4 @@
 pub mod Runs
 pub mod Law
+pub mod Example
+pub mod Blunders
