@@ -1,2 +1,4 @@
 pub mod Counts
 pub mod Known
+pub mod Kept
+pub mod Passes

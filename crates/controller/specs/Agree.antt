@@ -1,13 +1,14 @@
 -- What the code of the calls is held against: a step's parts, and parts of the definitions under names of their own.
 use mathlib.Core.Path.{_≡_}
-use mathlib.Core.Bool.{Bool, _||_, not}
+use mathlib.Core.Bool.{Bool, cond, _||_, not}
 use mathlib.Core.List.{List, [], _∷_, _++_, map}
-use Prim.Native.Nat.{ℕ, _+_, _≤_}
+use Prim.Native.Nat.{ℕ, _+_, _%_, _≤_}
 use lib.Dec.{eqb, leb}
 use lib.ListN.{length, take, drop, getD}
 use Rattle.std.specs.declared.option.Option.{Option}
 use Rattle.std.specs.declared.option.Option.the-variants.{Some, None}
 use Rattle.std.specs.declared.result.Result.{Result}
+use Rattle.wire.specs.declared.records.DigestValue.{DigestValue}
 use Rattle.wire.specs.declared.records.Statement.{Statement}
 use Rattle.wire.specs.declared.records.Sealed.{Sealed}
 use Rattle.wire.specs.declared.records.Request.{Request}
@@ -15,11 +16,13 @@ use Rattle.wire.specs.Frames.{stored}
 use Rattle.table.specs.Window.{enter-all, fill-at}
 use Rattle.controller.specs.declared.records.Core.{Core}
 use Rattle.controller.specs.declared.records.Answer.{Answer}
+use Rattle.controller.specs.declared.progress.Progress.{Progress}
 use Rattle.controller.specs.declared.refusal.Refusal.{Refusal}
 use Rattle.controller.specs.declared.refusal.Refusal.the-variants.{Room, Signer, Kind, Epoch, Authority, Seal}
 use Rattle.controller.specs.Refusals.{first-of}
 use Rattle.controller.specs.State.{size, with-view, with-table}
 use Rattle.controller.specs.Change.{turned}
+use Rattle.controller.specs.Delivery.{Flow, checkpoint-of}
 use Rattle.controller.specs.Call.{Step, cramped, unsealed}
 use Rattle.controller.specs.Enter.{stale, no-set-of}
 
@@ -49,3 +52,52 @@ turn-core c = with-view c (turned (size c) (c .view)) (enter-all (c .table) [])
 
 abbrev pub offer-core : Core → Sealed → List Request → Core
 offer-core c p rs = with-table c (fill-at (c .table) (p .statement .number) (p .statement .digest) (Some (stored rs)))
+
+-- a statement that holds no epoch
+abbrev pub said : ℕ → ℕ → ℕ → ℕ → DigestValue → Statement
+said kind signer epoch number digest = record { kind = kind; signer = signer; epoch = epoch; number = number; held = 0; digest = digest }
+
+-- sent from a place of the outbox on; its other places stay
+abbrev pub written-at : ℕ → List Sealed → List Sealed → List Sealed
+written-at at sent outbox = take at outbox ++ (sent ++ drop (at + length sent) outbox)
+
+-- DELIVERY
+
+-- the checkpoint that is due at a number
+abbrev pub due : ℕ → ℕ → ℕ → List Statement
+due signer number mark = cond (eqb (number % 16) 0) (checkpoint-of signer number mark ∷ []) []
+
+-- the core that a delivery leaves
+abbrev pub core-after : {X : Type 0} → Core → Flow X → Core
+core-after c f = record { house = c .house; view = c .view; table = c .table; delivered = f .delivered; windows = f .windows }
+
+-- the counts after a delivery
+abbrev pub progress-after : {X : Type 0} → Progress → Flow X → Progress
+progress-after p f = record {
+  issued = p .issued + length (f .issued);
+  batches = p .batches + length (f .batches);
+  applied = p .applied + f .applied;
+  passed = p .passed + f .passed;
+}
+
+-- core, application, outbox and counts are those that a delivery leads to, from a core, an outbox and counts on
+pub record Reached {X : Type 0} (c : Core) (box : List Sealed) (p : Progress) (f : Flow X) (c′ : Core) (x′ : X) (box′ : List Sealed) (p′ : Progress) : Type 0 where
+  pub core : c′ ≡ core-after c f
+  pub app : x′ ≡ f .app
+  pub outbox : box′ ≡ written-at (p .issued) (map unsealed (f .issued)) box
+  pub progress : p′ ≡ progress-after p f
+
+-- counts that leave room for more
+abbrev pub Small : Progress → Type 0
+Small p = (p .issued ≤ 100) × (p .batches ≤ 100) × (p .applied ≤ 1000) × (p .passed ≤ 1000)
+
+-- the answer of a call that delivered so much after a number
+abbrev pub answered : ℕ → Progress → Answer
+answered d p = record {
+  issued = p .issued;
+  forwarded = 0;
+  first = cond (eqb (p .batches) 0) 0 (d + 1);
+  batches = p .batches;
+  applied = p .applied;
+  passed = p .passed;
+}

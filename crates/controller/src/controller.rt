@@ -6,8 +6,8 @@ use digest::interface::Digest;
 
 #[derive(Drop)]
 pub struct Controller<D: Digest, A: Application> {
-    core: Core,
-    digest: D,
-    app: A,
+    pub(crate) core: Core,
+    pub(crate) digest: D,
+    pub(crate) app: A,
     ghost sound: { Sound core },
 }

@@ -1,6 +1,10 @@
 // A controller: what it keeps, and what its seven calls mean.
+pub mod calls;
 pub mod controller;
 mod leaders;
+mod offer;
+mod post;
+mod progress;
 pub mod records;
 pub mod refusal;
 mod refuse;

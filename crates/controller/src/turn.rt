@@ -1,7 +1,8 @@
 // Turn: the next epoch begins where all is delivered.
 ghost use mathlib.Core.Path.{_≡_};
+ghost use mathlib.Core.Bool.{false};
 ghost use Prim.Native.Nat.{_≤_, _<_};
-ghost use Rattle.controller.specs.Change.{after-last, turned};
+ghost use Rattle.controller.specs.Change.{last-epoch, after-last, turned};
 ghost use Rattle.controller.specs.Agree.{turn-core};
 use crate::leaders::all_of;
 use crate::leaders::with_primary;
@@ -21,7 +22,7 @@ impl View {
     }
 
     fn turned(&self, n: u8) -> View
-        requires { ⌜ 0 < n ⌝ ∗ ⌜ n ≤ 16 ⌝ ∗ ⌜ after-last (now self .last) ≤ 1000000000033 ⌝ ∗ ⌜ now self .epoch < 4294967295 ⌝ }
+        requires { ⌜ 0 < n ⌝ ∗ ⌜ n ≤ 16 ⌝ ∗ ⌜ after-last (now self .last) ≤ 1000000000033 ⌝ ∗ ⌜ last-epoch (now self .epoch) ≡ false ⌝ }
         ensures { λ r. ⌜ r ≡ turned n (now (self .entry)) ⌝ }
     {
         let epoch = self.epoch + 1;
@@ -44,7 +45,7 @@ impl View {
 
 impl Core {
     pub(crate) fn accept_turn(&mut self)
-        requires { ⌜ after-last (now self .view .last) ≤ 1000000000033 ⌝ ∗ ⌜ now self .view .epoch < 4294967295 ⌝ }
+        requires { ⌜ after-last (now self .view .last) ≤ 1000000000033 ⌝ ∗ ⌜ last-epoch (now self .view .epoch) ≡ false ⌝ }
         ensures { λ _. ⌜ now (self .exit) ≡ turn-core (now (self .entry)) ⌝ }
     {
         self.view = self.view.turned(self.house.n());

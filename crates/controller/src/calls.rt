@@ -1,0 +1,66 @@
+// The calls. Each has a contract that says all of it: what it answers, and what core, application and
+// outbox are at its end; a refused call changes nothing.
+ghost use mathlib.Core.Path.{_≡_};
+ghost use mathlib.Core.Bool.{true, false};
+ghost use Rattle.std.specs.Results.{Cases};
+ghost use Rattle.quorum.specs.Sizes.{no-house};
+ghost use Rattle.controller.specs.State.{new-core};
+ghost use Rattle.controller.specs.Offer.{offered};
+ghost use Rattle.controller.specs.Change.{took-turn};
+ghost use Rattle.controller.specs.Agree.{Agrees};
+use crate::controller::Controller;
+use crate::records::Answer;
+use crate::refusal::Refusal;
+use application::interface::Application;
+use digest::interface::Digest;
+use seal::checker::SealChecker;
+use wire::records::Request;
+use wire::records::Sealed;
+
+// The answer of a call that delivers nothing.
+fn quiet(issued: usize, forwarded: usize) -> Answer
+    ensures { λ r. ⌜ r ≡ record { issued = issued; forwarded = forwarded; first = 0; batches = 0; applied = 0; passed = 0 } ⌝ }
+{
+    Answer {
+        issued,
+        forwarded,
+        first: 0,
+        batches: 0,
+        applied: 0,
+        passed: 0,
+    }
+}
+
+impl<D: Digest, A: Application> Controller<D, A> {
+    pub fn offer<C: SealChecker>(
+        &mut self,
+        checker: &C,
+        proposal: &Sealed,
+        requests: &[Request],
+        outbox: &mut [Sealed],
+    ) -> Result<Answer, Refusal>
+        ensures agrees { λ r. ⌜ Agrees (offered (accepts (now (checker .entry))) (value (now (self .entry) .digest)) (now (self .entry) .core) (now (self .entry) .app) (now (outbox .entry)) (now (proposal .entry)) (now (requests .entry))) r (now (self .exit) .core) (now (self .exit) .app) (now (outbox .exit)) ⌝ }
+        ensures digest { λ _. ⌜ now (self .exit) .digest ≡ now (self .entry) .digest ⌝ }
+    {
+        match self.core.refuses_offer(checker, &self.digest, proposal, requests, outbox) {
+            Some(refusal) => Err(refusal),
+            None => {
+                self.core.accept_offer(proposal, requests, outbox);
+                Ok(quiet(1, 0))
+            }
+        }
+    }
+
+    pub fn turn(&mut self, outbox: &mut [Sealed]) -> Result<Answer, Refusal>
+        ensures agrees { λ r. ⌜ Agrees (took-turn (now (self .entry) .core) (now (self .entry) .app) (now (outbox .entry))) r (now (self .exit) .core) (now (self .exit) .app) (now (outbox .exit)) ⌝ }
+        ensures digest { λ _. ⌜ now (self .exit) .digest ≡ now (self .entry) .digest ⌝ }
+    {
+        match self.core.refuses_turn(outbox) {
+            Some(refusal) => Err(refusal),
+            None => {
+                self.core.accept_turn();
+                Ok(quiet(0, 0))
+            }
+        }
+    }
+}
