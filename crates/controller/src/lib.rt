@@ -1,6 +1,7 @@
 // A controller: what it keeps, and what its seven calls mean.
 pub mod calls;
 pub mod controller;
+mod deliver;
 mod leaders;
 mod offer;
 mod post;
