@@ -13,7 +13,8 @@ use Rattle.wire.specs.declared.records.Statement.{Statement}
 use Rattle.wire.specs.declared.records.Sealed.{Sealed}
 use Rattle.wire.specs.declared.records.Request.{Request}
 use Rattle.wire.specs.Frames.{stored}
-use Rattle.table.specs.Window.{enter-all, fill-at}
+use Rattle.table.specs.declared.records.Table.{Table}
+use Rattle.table.specs.Window.{enter-all, fill-at, supply-at}
 use Rattle.controller.specs.declared.records.Core.{Core}
 use Rattle.controller.specs.declared.records.Answer.{Answer}
 use Rattle.controller.specs.declared.progress.Progress.{Progress}
@@ -101,3 +102,27 @@ answered d p = record {
   applied = p .applied;
   passed = p .passed;
 }
+
+-- counts of a call that has delivered one batch at most
+abbrev pub Begun : Progress → Type 0
+Begun p = (p .issued ≤ 2) × (p .batches ≤ 1) × (p .applied ≤ 16) × (p .passed ≤ 16)
+
+-- what one batch adds at most
+abbrev pub More : Progress → Progress → Type 0
+More p q = (q .issued ≤ p .issued + 1) × (q .batches ≤ p .batches + 1) × (q .applied ≤ p .applied + 16) × (q .passed ≤ p .passed + 16)
+
+abbrev pub no-progress : Progress
+no-progress = record { issued = 0; batches = 0; applied = 0; passed = 0 }
+
+abbrev pub supply-core : Core → ℕ → List Request → Core
+supply-core c s rs = with-table c (supply-at (c .table) s (stored rs))
+
+-- statements that were issued before anything is delivered
+abbrev pub issued-only : List Statement → Progress
+issued-only sts = record { issued = length sts; batches = 0; applied = 0; passed = 0 }
+
+-- an accepted vote: its table, what it issues, and the outbox then
+pub record Voted (c : Core) (box : List Sealed) (t : Table) (issued : List Statement) (c′ : Core) (box′ : List Sealed) (p : Progress) : Type 0 where
+  pub core : c′ ≡ with-table c t
+  pub outbox : box′ ≡ written-at 0 (map unsealed issued) box
+  pub progress : p ≡ issued-only issued

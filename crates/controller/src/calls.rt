@@ -6,9 +6,13 @@ ghost use Rattle.std.specs.Results.{Cases};
 ghost use Rattle.quorum.specs.Sizes.{no-house};
 ghost use Rattle.controller.specs.State.{new-core};
 ghost use Rattle.controller.specs.Offer.{offered};
+ghost use Rattle.controller.specs.Vote.{voted};
+ghost use Rattle.controller.specs.Supply.{supplied};
+ghost use Rattle.controller.specs.Prove.{proved};
 ghost use Rattle.controller.specs.Change.{took-turn};
 ghost use Rattle.controller.specs.Agree.{Agrees};
 use crate::controller::Controller;
+use crate::progress::Progress;
 use crate::records::Answer;
 use crate::refusal::Refusal;
 use application::interface::Application;
@@ -47,6 +51,68 @@ impl<D: Digest, A: Application> Controller<D, A> {
             None => {
                 self.core.accept_offer(proposal, requests, outbox);
                 Ok(quiet(1, 0))
+            }
+        }
+    }
+
+    pub fn vote<C: SealChecker>(
+        &mut self,
+        checker: &C,
+        vote: &Sealed,
+        outbox: &mut [Sealed],
+    ) -> Result<Answer, Refusal>
+        ensures agrees { λ r. ⌜ Agrees (voted next marked (accepts (now (checker .entry))) (now (self .entry) .core) (now (self .entry) .app) (now (outbox .entry)) (now (vote .entry))) r (now (self .exit) .core) (now (self .exit) .app) (now (outbox .exit)) ⌝ }
+        ensures digest { λ _. ⌜ now (self .exit) .digest ≡ now (self .entry) .digest ⌝ }
+    {
+        match self.core.refuses_vote(checker, vote, outbox) {
+            Some(refusal) => Err(refusal),
+            None => {
+                let before = self.core.delivered;
+                let issued = self.core.accept_vote(vote, outbox);
+                let progress = self.core.deliver_ready(&mut self.app, outbox, issued);
+                Ok(progress.answer(before))
+            }
+        }
+    }
+
+    pub fn supply(
+        &mut self,
+        number: u64,
+        requests: &[Request],
+        outbox: &mut [Sealed],
+    ) -> Result<Answer, Refusal>
+        ensures agrees { λ r. ⌜ Agrees (supplied next marked (value (now (self .entry) .digest)) (now (self .entry) .core) (now (self .entry) .app) (now (outbox .entry)) number (now (requests .entry))) r (now (self .exit) .core) (now (self .exit) .app) (now (outbox .exit)) ⌝ }
+        ensures digest { λ _. ⌜ now (self .exit) .digest ≡ now (self .entry) .digest ⌝ }
+    {
+        match self.core.refuses_supply(&self.digest, number, requests, outbox) {
+            Some(refusal) => Err(refusal),
+            None => {
+                let before = self.core.delivered;
+                self.core.accept_supply(number, requests);
+                let progress = self.core.deliver_ready(&mut self.app, outbox, Progress::none());
+                Ok(progress.answer(before))
+            }
+        }
+    }
+
+    pub fn prove<C: SealChecker>(
+        &mut self,
+        checker: &C,
+        number: u64,
+        requests: &[Request],
+        commits: &[Sealed],
+        outbox: &mut [Sealed],
+    ) -> Result<Answer, Refusal>
+        ensures agrees { λ r. ⌜ Agrees (proved next marked (accepts (now (checker .entry))) (value (now (self .entry) .digest)) (now (self .entry) .core) (now (self .entry) .app) (now (outbox .entry)) number (now (requests .entry)) (now (commits .entry))) r (now (self .exit) .core) (now (self .exit) .app) (now (outbox .exit)) ⌝ }
+        ensures digest { λ _. ⌜ now (self .exit) .digest ≡ now (self .entry) .digest ⌝ }
+    {
+        match self.core.refuses_prove(checker, &self.digest, number, requests, commits, outbox) {
+            Some(refusal) => Err(refusal),
+            None => {
+                let before = self.core.delivered;
+                let first = self.core.deliver_one(&mut self.app, requests, outbox, Progress::none());
+                let progress = self.core.deliver_ready(&mut self.app, outbox, first);
+                Ok(progress.answer(before))
             }
         }
     }

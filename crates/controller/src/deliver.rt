@@ -6,7 +6,7 @@ ghost use lib.ListN.{length};
 ghost use Rattle.controller.specs.State.{size, own, enough};
 ghost use Rattle.controller.specs.Call.{unsealed};
 ghost use Rattle.controller.specs.Delivery.{known, ready, deliver-one, deliver-ready, begin};
-ghost use Rattle.controller.specs.Agree.{written-at, due, Reached, Small, answered};
+ghost use Rattle.controller.specs.Agree.{written-at, due, Reached, Small, Begun, More, answered};
 use crate::post::said;
 use crate::progress::Progress;
 use crate::records::Answer;
@@ -49,5 +49,55 @@ impl Core {
         }
         outbox[at] = said(CHECKPOINT, self.house.own(), 0, self.delivered, DigestValue::from_number(mark));
         1
+    }
+
+    // Delivers the batch of the next number.
+    pub(crate) fn deliver_one<P: Application>(
+        &mut self,
+        app: &mut P,
+        requests: &[Request],
+        outbox: &mut [Sealed],
+        so_far: Progress,
+    ) -> Progress
+        requires few { ⌜ length (now requests) ≤ 16 ⌝ }
+        requires low { ⌜ now self .delivered ≤ 1000000000032 ⌝ }
+        requires room { ⌜ «so_far» .issued < length (now outbox) ⌝ }
+        requires small { ⌜ Small «so_far» ⌝ }
+        ensures reached { λ r. ⌜ Reached (now (self .entry)) (now (outbox .entry)) «so_far» (deliver-one next marked (own (now (self .entry))) (begin next marked (now (self .entry)) (now (app .entry)) []) (now (requests .entry))) (now (self .exit)) (now (app .exit)) (now (outbox .exit)) r ⌝ }
+        ensures more { λ r. ⌜ More «so_far» r ⌝ }
+    {
+        let tally = deliver(app, &mut self.windows, requests);
+        self.delivered += 1;
+        let issued = self.checkpoint(app.mark(), so_far.issued, outbox);
+        Progress {
+            issued: so_far.issued + issued,
+            batches: so_far.batches + 1,
+            applied: so_far.applied + tally.applied,
+            passed: so_far.passed + tally.passed,
+        }
+    }
+
+    // Delivers what is ready, at most 32 batches.
+    pub(crate) fn deliver_ready<P: Application>(
+        &mut self,
+        app: &mut P,
+        outbox: &mut [Sealed],
+        so_far: Progress,
+    ) -> Progress
+        requires stable { ⌜ now self .table .stable ≤ 1000000000000 ⌝ }
+        requires low { ⌜ now self .delivered ≤ 1000000000032 ⌝ }
+        requires room { ⌜ «so_far» .issued + 32 ≤ length (now outbox) ⌝ }
+        requires begun { ⌜ Begun «so_far» ⌝ }
+        ensures reached { λ r. ⌜ Reached (now (self .entry)) (now (outbox .entry)) «so_far» (deliver-ready next marked 32 (now (self .entry)) (begin next marked (now (self .entry)) (now (app .entry)) [])) (now (self .exit)) (now (app .exit)) (now (outbox .exit)) r ⌝ }
+        ensures low { λ _. ⌜ now (self .exit) .delivered ≤ 1000000000032 ⌝ }
+    {
+        let mut progress = so_far;
+        for k in 0..32u8 {
+            let Some(batch) = self.ready_batch() else {
+                return progress;
+            };
+            progress = self.deliver_one(app, batch.as_slice(), outbox, progress);
+        }
+        progress
     }
 }

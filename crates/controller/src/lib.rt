@@ -10,4 +10,6 @@ pub mod records;
 pub mod refusal;
 mod refuse;
 mod requests;
+mod supply;
 mod turn;
+mod vote;
