@@ -5,3 +5,4 @@ pub mod Passes
 pub mod Posts
 pub mod Flows
 pub mod Ends
+pub mod Votings

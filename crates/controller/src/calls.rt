@@ -14,9 +14,11 @@ ghost use Rattle.controller.specs.Agree.{Agrees};
 use crate::controller::Controller;
 use crate::progress::Progress;
 use crate::records::Answer;
+use crate::records::Core;
 use crate::refusal::Refusal;
 use application::interface::Application;
 use digest::interface::Digest;
+use quorum::house::House;
 use seal::checker::SealChecker;
 use wire::records::Request;
 use wire::records::Sealed;
@@ -32,6 +34,22 @@ fn quiet(issued: usize, forwarded: usize) -> Answer
         batches: 0,
         applied: 0,
         passed: 0,
+    }
+}
+
+impl<D: Digest + Drop, A: Application + Drop> Controller<D, A> {
+    // A controller of a house at its start; refused is a house that cannot be.
+    pub fn open(n: u8, own: u8, digest: D, app: A) -> Result<Controller<D, A>, Refusal>
+        ensures { λ r. ⌜ Cases r (λ k. (no-house n own ≡ false) × (k .core .house .n ≡ n) × (k .core .house .own ≡ own) × (k .core ≡ new-core (k .core .house)) × (k .digest ≡ digest) × (k .app ≡ app)) (λ e. (no-house n own ≡ true) × (e ≡ Refusal.House)) ⌝ }
+    {
+        match House::new(n, own) {
+            Ok(house) => Ok(Controller {
+                core: Core::new(house),
+                digest,
+                app,
+            }),
+            Err(_) => Err(Refusal::House),
+        }
     }
 }
 

@@ -1,4 +1,5 @@
 // A controller: what it keeps, and what its seven calls mean.
+mod begin;
 pub mod calls;
 pub mod controller;
 mod deliver;
