@@ -58,7 +58,7 @@ few-drop zero ps few = few
 few-drop (suc k) [] few = few
 few-drop (suc k) (p ∷ ps) few = few-drop k ps (λ i. few (suc i))
 
-few-empty : (k : ℕ) → Few (replicate k empty-place)
+pub few-empty : (k : ℕ) → Few (replicate k empty-place)
 few-empty zero i = omega arith
 few-empty (suc k) zero = omega arith
 few-empty (suc k) (suc i) = few-empty k i

@@ -6,3 +6,4 @@ pub mod Posts
 pub mod Flows
 pub mod Ends
 pub mod Votings
+pub mod Tells

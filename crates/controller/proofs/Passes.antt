@@ -15,22 +15,23 @@ use Rattle.wire.specs.declared.records.Statement.{Statement}
 use Rattle.wire.specs.declared.records.Sealed.{Sealed}
 use Rattle.wire.specs.declared.records.Request.{Request}
 use Rattle.wire.specs.Frames.{stored}
+use Rattle.quorum.specs.declared.house.House.{House}
 use Rattle.table.specs.Places.{filled}
 use Rattle.controller.specs.declared.refusal.Refusal.the-variants.{Room, Signer, Kind, Epoch, Number, Authority, Seal, Standing, Batch as BadBatch}
 use Rattle.controller.specs.Refusals.{or-else, at-request}
 use Rattle.controller.specs.Leaders.{owns}
 use Rattle.controller.specs.Offer.{not-offered, no-batch-of, first-bad, offer-refusal}
 use Rattle.table.specs.declared.records.Table.{Table}
-use Rattle.table.specs.Window.{enter-all, place-at, fill-at}
+use Rattle.table.specs.Window.{new-table, enter-all, place-at, fill-at}
 use Rattle.controller.specs.declared.records.View.{View}
 use Rattle.controller.specs.declared.records.Core.{Core}
 use Rattle.controller.specs.declared.refusal.Refusal.{Refusal}
-use Rattle.controller.specs.State.{size, with-table}
+use Rattle.controller.specs.State.{size, with-table, new-core}
 use Rattle.controller.specs.Call.{cramped}
 use Rattle.controller.specs.Change.{last-epoch, undelivered, after-last, turned, turn-refusal}
 use Rattle.controller.specs.Sound.{Sound}
 use Rattle.controller.specs.Agree.{turn-core, offer-core}
-use Rattle.controller.proofs.Kept.{entered-none, few-entered, Tame, tame-with}
+use Rattle.controller.proofs.Kept.{few-empty, entered-none, few-entered, Tame, tame-with}
 
 pub passes : (b : Bool) (r : Refusal) (o : Option Refusal) → None ≡ cond b (Some r) o → (b ≡ false) × (None ≡ o)
 passes false r o e = (refl, e)
@@ -99,3 +100,7 @@ offer-sound c p rs h =
     let s = p .statement .number in
     sound-with c (fill-at (c .table) s (p .statement .digest) (Some (stored rs))) h
     (tame-with (c .table) s (filled (p .statement .digest) (Some (stored rs)) (place-at (c .table) s)) (tame c h) (h .3 (s - c .table .stable - 1)))
+
+pub new-sound : (h : House) → Sound (new-core h)
+unfolding new-table
+new-sound h = (omega arith, omega arith, omega arith, few-empty 32)

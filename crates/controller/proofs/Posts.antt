@@ -49,3 +49,10 @@ due-none signer number mark h = cond-false (eqb (number % 16) 0) (checkpoint-of 
 
 pub due-one : (signer number mark : ℕ) → number % 16 ≡ 0 → due signer number mark ≡ checkpoint-of signer number mark ∷ []
 due-one signer number mark h = cond-true (eqb (number % 16) 0) (checkpoint-of signer number mark ∷ []) [] (eq-eqb (number % 16) 0 h)
+
+-- one more behind what is written
+pub written-push : (at n : ℕ) (xs : List Sealed) (x : Sealed) (box box′ : List Sealed) → box′ ≡ written-at at xs box → length box′ ≡ length box → n ≡ length xs → at + n < length box
+    → set box′ (at + n) x ≡ written-at at (xs ++ x ∷ []) box
+written-push at n xs x box box′ is same hn h =
+    written-one (at + n) x box′ (omega arith)
+    ∙ ((λ i. written-at (at + hn i) (x ∷ []) (is i)) ∙ written-more at xs (x ∷ []) box (omega arith))

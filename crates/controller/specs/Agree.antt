@@ -13,6 +13,7 @@ use Rattle.wire.specs.declared.records.Statement.{Statement}
 use Rattle.wire.specs.declared.records.Sealed.{Sealed}
 use Rattle.wire.specs.declared.records.Request.{Request}
 use Rattle.wire.specs.Frames.{stored}
+use Rattle.table.specs.declared.records.Vote.{Vote}
 use Rattle.table.specs.declared.records.Table.{Table}
 use Rattle.table.specs.Window.{enter-all, fill-at, supply-at}
 use Rattle.controller.specs.declared.records.Core.{Core}
@@ -21,8 +22,8 @@ use Rattle.controller.specs.declared.progress.Progress.{Progress}
 use Rattle.controller.specs.declared.refusal.Refusal.{Refusal}
 use Rattle.controller.specs.declared.refusal.Refusal.the-variants.{Room, Signer, Kind, Epoch, Authority, Seal}
 use Rattle.controller.specs.Refusals.{first-of}
-use Rattle.controller.specs.State.{size, with-view, with-table}
-use Rattle.controller.specs.Change.{turned}
+use Rattle.controller.specs.State.{size, own, with-view, with-table}
+use Rattle.controller.specs.Change.{turned, given-up, stable-of, helds-from}
 use Rattle.controller.specs.Delivery.{Flow, checkpoint-of}
 use Rattle.controller.specs.Call.{Step, cramped, unsealed}
 use Rattle.controller.specs.Enter.{stale, no-set-of}
@@ -126,3 +127,14 @@ pub record Voted (c : Core) (box : List Sealed) (t : Table) (issued : List State
   pub core : c′ ≡ with-table c t
   pub outbox : box′ ≡ written-at 0 (map unsealed issued) box
   pub progress : p ≡ issued-only issued
+
+-- a vote as a statement of a kind, an epoch and a number
+abbrev pub spoken : ℕ → ℕ → ℕ → Vote → Sealed
+spoken kind epoch number v = record { statement = said kind (v .signer) epoch number (v .digest); seal = v .seal }
+
+-- what giving up makes of a core, and what it issues
+abbrev pub give-up-core : Core → Core
+give-up-core c = with-view c (given-up (c .view)) (c .table)
+
+abbrev pub told : Core → ℕ → List Statement
+told c target = stable-of (own c) target (c .table .stable) ∷ helds-from (own c) target (c .table .stable + 1) (c .table .places)

@@ -9,7 +9,7 @@ ghost use Rattle.controller.specs.Offer.{offered};
 ghost use Rattle.controller.specs.Vote.{voted};
 ghost use Rattle.controller.specs.Supply.{supplied};
 ghost use Rattle.controller.specs.Prove.{proved};
-ghost use Rattle.controller.specs.Change.{took-turn};
+ghost use Rattle.controller.specs.Change.{gave-up, took-turn};
 ghost use Rattle.controller.specs.Agree.{Agrees};
 use crate::controller::Controller;
 use crate::progress::Progress;
@@ -131,6 +131,19 @@ impl<D: Digest, A: Application> Controller<D, A> {
                 let first = self.core.deliver_one(&mut self.app, requests, outbox, Progress::none());
                 let progress = self.core.deliver_ready(&mut self.app, outbox, first);
                 Ok(progress.answer(before))
+            }
+        }
+    }
+
+    pub fn give_up(&mut self, outbox: &mut [Sealed]) -> Result<Answer, Refusal>
+        ensures agrees { λ r. ⌜ Agrees (gave-up (now (self .entry) .core) (now (self .entry) .app) (now (outbox .entry))) r (now (self .exit) .core) (now (self .exit) .app) (now (outbox .exit)) ⌝ }
+        ensures digest { λ _. ⌜ now (self .exit) .digest ≡ now (self .entry) .digest ⌝ }
+    {
+        match self.core.refuses_give_up(outbox) {
+            Some(refusal) => Err(refusal),
+            None => {
+                let forwarded = self.core.accept_give_up(outbox);
+                Ok(quiet(33, forwarded))
             }
         }
     }

@@ -3,6 +3,7 @@ mod begin;
 pub mod calls;
 pub mod controller;
 mod deliver;
+mod give_up;
 mod leaders;
 mod offer;
 mod post;
