@@ -7,3 +7,4 @@ pub mod Flows
 pub mod Ends
 pub mod Votings
 pub mod Tells
+pub mod Chosen

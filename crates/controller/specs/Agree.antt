@@ -15,18 +15,19 @@ use Rattle.wire.specs.declared.records.Request.{Request}
 use Rattle.wire.specs.Frames.{stored}
 use Rattle.table.specs.declared.records.Vote.{Vote}
 use Rattle.table.specs.declared.records.Table.{Table}
-use Rattle.table.specs.Window.{enter-all, fill-at, supply-at}
+use Rattle.table.specs.Window.{enter-all, fill-at, supply-at, move-to}
+use Rattle.dossier.specs.declared.parts.Opened.{Opened}
 use Rattle.controller.specs.declared.records.Core.{Core}
 use Rattle.controller.specs.declared.records.Answer.{Answer}
 use Rattle.controller.specs.declared.progress.Progress.{Progress}
 use Rattle.controller.specs.declared.refusal.Refusal.{Refusal}
 use Rattle.controller.specs.declared.refusal.Refusal.the-variants.{Room, Signer, Kind, Epoch, Authority, Seal}
 use Rattle.controller.specs.Refusals.{first-of}
-use Rattle.controller.specs.State.{size, own, with-view, with-table}
+use Rattle.controller.specs.State.{size, own, enough, with-view, with-table}
 use Rattle.controller.specs.Change.{turned, given-up, stable-of, helds-from}
 use Rattle.controller.specs.Delivery.{Flow, checkpoint-of}
 use Rattle.controller.specs.Call.{Step, cramped, unsealed}
-use Rattle.controller.specs.Enter.{stale, no-set-of}
+use Rattle.controller.specs.Enter.{stale, no-set-of, base-proof, choices, entered-view, prepares-chosen}
 
 -- a call's result, and what core, application and outbox are at its end, are those of a step
 pub record Agrees {X : Type 0} (s : Step X) (r : Result Answer Refusal) (c : Core) (a : X) (o : List Sealed) : Type 0 where
@@ -138,3 +139,16 @@ give-up-core c = with-view c (given-up (c .view)) (c .table)
 
 abbrev pub told : Core → ℕ → List Statement
 told c target = stable-of (own c) target (c .table .stable) ∷ helds-from (own c) target (c .table .stable + 1) (c .table .places)
+
+-- the table of an epoch that begins, before its places are entered; what is chosen for them; the core then, and what is issued
+abbrev pub enter-table : Core → List Sealed → Opened → Table
+enter-table c records o = move-to (c .table) (o .base) (base-proof (enough c) records o)
+
+abbrev pub enter-chosen : Core → List Sealed → Opened → List (Option DigestValue)
+enter-chosen c records o = choices o (enter-table c records o .stable + 1) 32
+
+abbrev pub enter-core : Core → Sealed → List Sealed → Opened → Core
+enter-core c new records o = with-view c (entered-view (new .statement) o) (enter-all (enter-table c records o) (enter-chosen c records o))
+
+abbrev pub enter-issued : Core → Sealed → List Sealed → Opened → List Statement
+enter-issued c new records o = prepares-chosen (own c) (new .statement .epoch) (enter-table c records o .stable + 1) (enter-chosen c records o)

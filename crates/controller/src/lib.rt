@@ -3,6 +3,7 @@ mod begin;
 pub mod calls;
 pub mod controller;
 mod deliver;
+mod enter;
 mod give_up;
 mod leaders;
 mod offer;
