@@ -8,6 +8,7 @@ use lib.ListN.{length, take, drop, getD}
 use Rattle.std.specs.declared.option.Option.{Option}
 use Rattle.std.specs.declared.option.Option.the-variants.{Some, None}
 use Rattle.std.specs.declared.result.Result.{Result}
+use Rattle.std.specs.declared.result.Result.the-variants.{Ok, Err}
 use Rattle.wire.specs.declared.records.DigestValue.{DigestValue}
 use Rattle.wire.specs.declared.records.Statement.{Statement}
 use Rattle.wire.specs.declared.records.Sealed.{Sealed}
@@ -27,7 +28,7 @@ use Rattle.controller.specs.State.{size, own, enough, with-view, with-table}
 use Rattle.controller.specs.Change.{turned, given-up, stable-of, helds-from}
 use Rattle.controller.specs.Delivery.{Flow, checkpoint-of}
 use Rattle.controller.specs.Call.{Step, cramped, unsealed}
-use Rattle.controller.specs.Enter.{stale, no-set-of, base-proof, choices, entered-view, prepares-chosen}
+use Rattle.controller.specs.Enter.{stale, no-set-of, opened, enter-refusal, base-proof, choices, entered-view, prepares-chosen}
 
 -- a call's result, and what core, application and outbox are at its end, are those of a step
 pub record Agrees {X : Type 0} (s : Step X) (r : Result Answer Refusal) (c : Core) (a : X) (o : List Sealed) : Type 0 where
@@ -152,3 +153,9 @@ enter-core c new records o = with-view c (entered-view (new .statement) o) (ente
 
 abbrev pub enter-issued : Core → Sealed → List Sealed → Opened → List Statement
 enter-issued c new records o = prepares-chosen (own c) (new .statement .epoch) (enter-table c records o .stable + 1) (enter-chosen c records o)
+
+-- what judging a new epoch answers: what its dossier says, of a base within the limit, if nothing refuses it, or the refusal
+abbrev pub Judged : (Statement → ℕ → Bool) → Core → List Sealed → Sealed → List Sealed → Result Opened Refusal → Type 0
+Judged accepts c outbox new records (Ok o) =
+    (opened accepts c new records ≡ Ok o) × (None ≡ enter-refusal accepts c outbox new (opened accepts c new records)) × (o .base ≤ 1000000000000)
+Judged accepts c outbox new records (Err e) = Some e ≡ enter-refusal accepts c outbox new (opened accepts c new records)

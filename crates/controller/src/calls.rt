@@ -10,6 +10,7 @@ ghost use Rattle.controller.specs.Vote.{voted};
 ghost use Rattle.controller.specs.Supply.{supplied};
 ghost use Rattle.controller.specs.Prove.{proved};
 ghost use Rattle.controller.specs.Change.{gave-up, took-turn};
+ghost use Rattle.controller.specs.Enter.{entered};
 ghost use Rattle.controller.specs.Agree.{Agrees};
 use crate::controller::Controller;
 use crate::progress::Progress;
@@ -144,6 +145,25 @@ impl<D: Digest, A: Application> Controller<D, A> {
             None => {
                 let forwarded = self.core.accept_give_up(outbox);
                 Ok(quiet(33, forwarded))
+            }
+        }
+    }
+
+    pub fn enter<C: SealChecker>(
+        &mut self,
+        checker: &C,
+        new: &Sealed,
+        records: &[Sealed],
+        outbox: &mut [Sealed],
+    ) -> Result<Answer, Refusal>
+        ensures agrees { λ r. ⌜ Agrees (entered (accepts (now (checker .entry))) (now (self .entry) .core) (now (self .entry) .app) (now (outbox .entry)) (now (new .entry)) (now (records .entry))) r (now (self .exit) .core) (now (self .exit) .app) (now (outbox .exit)) ⌝ }
+        ensures digest { λ _. ⌜ now (self .exit) .digest ≡ now (self .entry) .digest ⌝ }
+    {
+        match self.core.judge(checker, new, records, outbox) {
+            Err(refusal) => Err(refusal),
+            Ok(opened) => {
+                let issued = self.core.accept_enter(new, records, &opened, outbox);
+                Ok(quiet(issued, 0))
             }
         }
     }
