@@ -108,14 +108,15 @@ issued-more signer epoch s ds i n k box box′ box″ lt room hn is hk next =
     let front = prepares-chosen signer epoch s (take i ds) in
     let one = prepares-chosen signer epoch (s + i) (getD ds i None ∷ []) in
     let more : prepares-chosen signer epoch s (take (i + 1) ds) ≡ front ++ one =
-        ap (prepares-chosen signer epoch s) (take-more ds i None lt)
-        ∙ (chosen-push signer epoch s (take i ds) (getD ds i None)
-        ∙ ap (λ m. front ++ prepares-chosen signer epoch (s + m) (getD ds i None ∷ [])) (length-take-le i ds (omega arith))) in
-    let at : n ≡ 0 + length (map unsealed front) = omega (arith, hn, length-map front unsealed) in
-    (omega (arith, ap length more, length-append front one),
+    ap (prepares-chosen signer epoch s) (take-more ds i None lt)
+    ∙ (chosen-push signer epoch s (take i ds) (getD ds i None)
+    ∙ ap (λ m. front ++ prepares-chosen signer epoch (s + m) (getD ds i None ∷ [])) (length-take-le i ds (omega arith))) in
+    let at : n ≡ 0 + length (map unsealed front) = omega (arith, hn, length-map front unsealed) in (
+      omega (arith, ap length more, length-append front one),
       next ∙ ((λ j. written-at (at j) (map unsealed one) (is j))
-      ∙ (written-more 0 (map unsealed front) (map unsealed one) box (omega arith)
-      ∙ ap (λ l. written-at 0 l box) (sym (ap (map unsealed) more ∙ map-append unsealed front one)))))
+          ∙ (written-more 0 (map unsealed front) (map unsealed one) box (omega arith)
+          ∙ ap (λ l. written-at 0 l box) (sym (ap (map unsealed) more ∙ map-append unsealed front one)))),
+    )
 
 -- THE WHOLE
 
@@ -176,11 +177,11 @@ pub enter-made : (c : Core) (new : Sealed) (records : List Sealed) (o : Opened) 
     → box′ ≡ written-at 0 (map unsealed (prepares-chosen signer (new .statement .epoch) (t .stable + 1) ds)) box
     → t′ ≡ enter-all t ds → leaders ≡ number-of (new .statement .digest)
     → Entered c new records o box
-      (record { house = c .house; view = record { epoch = new .statement .epoch; changing = false; leaders = leaders; first = o .base + 1; last = Some (o .base + 32) }; table = t′; delivered = c .delivered; windows = c .windows })
-      k box′
+    (record { house = c .house; view = record { epoch = new .statement .epoch; changing = false; leaders = leaders; first = o .base + 1; last = Some (o .base + 32) }; table = t′; delivered = c .delivered; windows = c .windows })
+    k box′
 enter-made c new records o q marks proof t t′ ds signer leaders k box box′ hq hm hp ht hd hs hk hb he hl =
     let made : t ≡ enter-table c records o =
-        ht ∙ ap (move-to (c .table) (o .base)) (hp ∙ ap (λ l. listed (map as-vote l)) (hm ∙ ap (λ n. checkpoint-group n records o) hq)) in
+    ht ∙ ap (move-to (c .table) (o .base)) (hp ∙ ap (λ l. listed (map as-vote l)) (hm ∙ ap (λ n. checkpoint-group n records o) hq)) in
     let chose : ds ≡ enter-chosen c records o = hd ∙ ap (λ (u : Table). choices o (u .stable + 1) 32) made in
     let issued : prepares-chosen signer (new .statement .epoch) (t .stable + 1) ds ≡ enter-issued c new records o = λ i. prepares-chosen (hs i) (new .statement .epoch) (made i .stable + 1) (chose i) in
     let table : t′ ≡ enter-all (enter-table c records o) (enter-chosen c records o) = he ∙ (λ i. enter-all (made i) (chose i)) in

@@ -50,8 +50,8 @@ module _ {X : Type 0} (next : X → ℕ → ℕ → ℕ → X) (marked : X → �
     pub one-reached : (box : List Sealed) (p : Progress) (m k : ℕ) (box′ : List Sealed) → m ≡ marked x′ → k ≡ length (due (own c) (c .delivered + 1) m)
         → box′ ≡ written-at (p .issued) (map unsealed (due (own c) (c .delivered + 1) m)) box
         → Reached c box p (deliver-one next marked (own c) (begin next marked c x []) rs)
-          (record { house = c .house; view = c .view; table = c .table; delivered = c .delivered + 1; windows = w }) x′ box′
-          (record { issued = p .issued + k; batches = p .batches + 1; applied = p .applied + applied; passed = p .passed + passed })
+        (record { house = c .house; view = c .view; table = c .table; delivered = c .delivered + 1; windows = w }) x′ box′
+        (record { issued = p .issued + k; batches = p .batches + 1; applied = p .applied + applied; passed = p .passed + passed })
     unfolding deliver-one
     one-reached box p m k box′ hm hk hb =
         let d = delivered next x (c .windows) rs in
@@ -181,9 +181,9 @@ module _ {X : Type 0} (next : X → ℕ → ℕ → ℕ → X) (marked : X → �
           core = is .core ∙ ap (λ k. core-after k g) (was .core);
           app = is .app;
           outbox = is .outbox
-            ∙ ((λ i. written-at (n i) gs (was .outbox i))
-            ∙ (written-more (p .issued) fs gs box (omega arith)
-            ∙ ap (λ l. written-at (p .issued) l box) (sym (map-append unsealed (f .issued) (g .issued)))));
+              ∙ ((λ i. written-at (n i) gs (was .outbox i))
+              ∙ (written-more (p .issued) fs gs box (omega arith)
+              ∙ ap (λ l. written-at (p .issued) l box) (sym (map-append unsealed (f .issued) (g .issued)))));
           progress = is .progress ∙ (ap (λ q. progress-after q g) (was .progress) ∙ (λ i. record { issued = issued i; batches = batches i; applied = applied i; passed = passed i }));
         }
 
@@ -193,9 +193,9 @@ module _ {X : Type 0} (next : X → ℕ → ℕ → ℕ → X) (marked : X → �
         → Reached c box p (deliver-one next marked (own c) f rs) c″ x″ box″ p″
     one-on rs c″ x″ box″ p″ is =
         let same : frame f (deliver-one next marked (own c′) (begin next marked c′ x′ []) rs) ≡ deliver-one next marked (own c) f rs =
-            (λ i. frame f (deliver-one next marked (own (was .core i)) (begin next marked (was .core i) (was .app i) []) rs))
-            ∙ (sym (one-framed (own c) f (begin next marked (core-after c f) (f .app) []) rs)
-            ∙ ap (λ h. deliver-one next marked (own c) h rs) (begun c f)) in
+        (λ i. frame f (deliver-one next marked (own (was .core i)) (begin next marked (was .core i) (was .app i) []) rs))
+        ∙ (sym (one-framed (own c) f (begin next marked (core-after c f) (f .app) []) rs)
+        ∙ ap (λ h. deliver-one next marked (own c) h rs) (begun c f)) in
         subst (λ h. Reached c box p h c″ x″ box″ p″) same (then-reached (deliver-one next marked (own c′) (begin next marked c′ x′ []) rs) c″ x″ box″ p″ is)
 
     -- all that is ready
@@ -205,10 +205,10 @@ module _ {X : Type 0} (next : X → ℕ → ℕ → ℕ → X) (marked : X → �
     goes-on c″ x″ box″ p″ is =
         let start = begin next marked (core-after c f) (f .app) [] in
         let same : frame f (deliver-ready next marked 32 c′ (begin next marked c′ x′ [])) ≡ deliver-ready next marked 32 c f =
-            (λ i. frame f (deliver-ready next marked 32 (was .core i) (begin next marked (was .core i) (was .app i) [])))
-            ∙ (ap (frame f) (same-core 32 c f start)
-            ∙ (sym (ready-framed 32 c f start)
-            ∙ ap (deliver-ready next marked 32 c) (begun c f))) in
+        (λ i. frame f (deliver-ready next marked 32 (was .core i) (begin next marked (was .core i) (was .app i) [])))
+        ∙ (ap (frame f) (same-core 32 c f start)
+        ∙ (sym (ready-framed 32 c f start)
+        ∙ ap (deliver-ready next marked 32 c) (begun c f))) in
         subst (λ h. Reached c box p h c″ x″ box″ p″) same (then-reached (deliver-ready next marked 32 c′ (begin next marked c′ x′ [])) c″ x″ box″ p″ is)
 
     -- what is ready after so much

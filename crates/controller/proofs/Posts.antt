@@ -30,10 +30,10 @@ written-more at xs ys box h =
     let kept : take (at + length xs) (written-at at xs box) ≡ front = ap (take (at + length xs)) split ∙ take-at front rest (at + length xs) long in
     let left : drop (at + length xs) (written-at at xs box) ≡ rest = ap (drop (at + length xs)) split ∙ drop-at front rest (at + length xs) long in
     let tail : drop (at + length xs + length ys) (written-at at xs box) ≡ drop (at + length (xs ++ ys)) box =
-        sym (drop-drop (length ys) (at + length xs) (written-at at xs box))
-        ∙ (ap (drop (length ys)) left
-        ∙ (drop-drop (length ys) (at + length xs) box
-        ∙ (let n : at + length xs + length ys ≡ at + length (xs ++ ys) = omega (arith, length-append xs ys) in ap (λ k. drop k box) n))) in
+    sym (drop-drop (length ys) (at + length xs) (written-at at xs box))
+    ∙ (ap (drop (length ys)) left
+    ∙ (drop-drop (length ys) (at + length xs) box
+    ∙ (let n : at + length xs + length ys ≡ at + length (xs ++ ys) = omega (arith, length-append xs ys) in ap (λ k. drop k box) n))) in
     (λ i. kept i ++ (ys ++ tail i))
     ∙ (append-assoc (take at box) xs (ys ++ drop (at + length (xs ++ ys)) box)
     ∙ ap (λ l. take at box ++ l) (sym (append-assoc xs ys (drop (at + length (xs ++ ys)) box))))

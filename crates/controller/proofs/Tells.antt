@@ -48,8 +48,8 @@ held-more signer target s ps i at box box′ x lt room same is hx =
     let long : i ≡ length (map unsealed before) = omega (arith, length-map before unsealed, length-helds signer target s (take i ps), short) in
     let one = held-for signer target (s + i) (getD ps i past .certificate) in
     let grown : helds-from signer target s (take (i + 1) ps) ≡ before ++ one ∷ [] =
-        ap (helds-from signer target s) (take-more ps i past lt)
-        ∙ (helds-push signer target s (take i ps) (getD ps i past) ∙ ap (λ n. before ++ held-for signer target (s + n) (getD ps i past .certificate) ∷ []) short) in
+    ap (helds-from signer target s) (take-more ps i past lt)
+    ∙ (helds-push signer target s (take i ps) (getD ps i past) ∙ ap (λ n. before ++ held-for signer target (s + n) (getD ps i past .certificate) ∷ []) short) in
     written-push at i (map unsealed before) x box box′ is same long room
     ∙ (ap (λ y. written-at at (map unsealed before ++ y ∷ []) box) hx
     ∙ ap (λ l. written-at at l box) (sym (ap (map unsealed) grown ∙ map-append unsealed before (one ∷ []))))
@@ -83,17 +83,19 @@ pub certificate-more : (s : ℕ) (ps : List Place) (i at n k : ℕ) (box box′ 
 certificate-more s ps i at n k box box′ box″ lt room hn is hk next =
     let front = prepares-from s (take i ps) in
     let one = prepares-for (s + i) (getD ps i past .certificate) in
-    let more = prepares-more s ps i lt in
-    (omega (arith, ap length more, length-append front one),
-      next ∙ ((λ j. written-at (at + hn j) one (is j)) ∙ (written-more at front one box (omega arith) ∙ ap (λ l. written-at at l box) (sym more))))
+    let more = prepares-more s ps i lt in (
+      omega (arith, ap length more, length-append front one),
+      next ∙ ((λ j. written-at (at + hn j) one (is j)) ∙ (written-more at front one box (omega arith) ∙ ap (λ l. written-at at l box) (sym more))),
+    )
 
 pub certificate-votes : (number : ℕ) (o : Option Certificate) (k : Certificate) (slice : List Vote) → o ≡ Some k → held-votes o ≤ 11 → slice ≡ votes-of (k .prepares)
     → (length slice ≡ length (prepares-for number o)) × (length slice ≤ 11) × (map (spoken 3 (k .epoch) number) slice ≡ prepares-for number o)
 certificate-votes number o k slice is few same =
-    let all : map (spoken 3 (k .epoch) number) slice ≡ prepares-for number o = ap (map (spoken 3 (k .epoch) number)) same ∙ sym (ap (prepares-for number) is) in
-    (sym (length-map slice (spoken 3 (k .epoch) number)) ∙ ap length all,
+    let all : map (spoken 3 (k .epoch) number) slice ≡ prepares-for number o = ap (map (spoken 3 (k .epoch) number)) same ∙ sym (ap (prepares-for number) is) in (
+      sym (length-map slice (spoken 3 (k .epoch) number)) ∙ ap length all,
       omega (arith, ap length same, length-take (min (k .prepares .count) 16) (k .prepares .list), ap held-votes is),
-      all)
+      all,
+    )
 
 pub tell-made : (c : Core) (target signer : ℕ) (box box′ : List Sealed) (x : Sealed) → 33 ≤ length box → x ≡ unsealed (stable-of (own c) target (c .table .stable)) → signer ≡ own c
     → box′ ≡ written-at 1 (map unsealed (helds-from signer target (c .table .stable + 1) (c .table .places))) (set box 0 x)
@@ -114,9 +116,10 @@ show-made t slice k box box′ box″ same room is hk next =
     let xs = map (spoken 5 0 (t .stable)) slice in
     let ys = prepares-from (t .stable + 1) (t .places) in
     let long : length slice ≡ length xs = sym (length-map slice (spoken 5 0 (t .stable))) in
-    let all : xs ++ ys ≡ evidence t = ap (λ l. map (spoken 5 0 (t .stable)) l ++ ys) same in
-    (omega (arith, ap length all, length-append xs ys, long),
-      next ∙ ((λ i. written-at (33 + long i) ys (is i)) ∙ (written-more 33 xs ys box (omega (arith, long)) ∙ ap (λ l. written-at 33 l box) all)))
+    let all : xs ++ ys ≡ evidence t = ap (λ l. map (spoken 5 0 (t .stable)) l ++ ys) same in (
+      omega (arith, ap length all, length-append xs ys, long),
+      next ∙ ((λ i. written-at (33 + long i) ys (is i)) ∙ (written-more 33 xs ys box (omega (arith, long)) ∙ ap (λ l. written-at 33 l box) all)),
+    )
 
 pub give-made : (c : Core) (target : ℕ) (box box′ box″ : List Sealed) → length (c .table .places) ≡ 32 → 400 ≤ length box
     → box′ ≡ written-at 0 (map unsealed (told c target)) box → box″ ≡ written-at 33 (evidence (c .table)) box′

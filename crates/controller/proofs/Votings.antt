@@ -52,8 +52,8 @@ prepared-voted c v box t₁ t₂ b x p room hb h₁ full h₂ hx hp =
     let said-one = commit-of (own c) (c .view .epoch) (st .number) (st .digest) in
     let issued : prepare-issued c v ≡ said-one ∷ [] = cond-true (now-prepared c v) (said-one ∷ []) [] yes-now in
     let table : t₂ ≡ prepare-table c v =
-        h₂ ∙ (ap (λ t. certify-at t (st .number) (c .view .epoch) (st .digest)) at
-        ∙ sym (cond-true (now-prepared c v) (certify-at (with-prepare c v) (st .number) (c .view .epoch) (st .digest)) (with-prepare c v) yes-now)) in
+    h₂ ∙ (ap (λ t. certify-at t (st .number) (c .view .epoch) (st .digest)) at
+    ∙ sym (cond-true (now-prepared c v) (certify-at (with-prepare c v) (st .number) (c .view .epoch) (st .digest)) (with-prepare c v) yes-now)) in
     record {
       core = ap (with-table c) table;
       outbox = ap (set box 0) hx ∙ (written-one 0 (unsealed said-one) box room ∙ sym (ap (λ l. written-at 0 (map unsealed l) box) issued));
@@ -125,7 +125,7 @@ module _ (accepts : Statement → ℕ → Bool) (c : Core) (outbox : List Sealed
         let t₁ : Tame (with-prepare c v) = tame-with (c .table) (st .number) (prepared (st .signer) (ballot-of v) (place-at (c .table) (st .number))) (tame c h) (h .3 (st .number - c .table .stable - 1)) in
         cond-both (now-prepared c v) (certify-at (with-prepare c v) (st .number) (c .view .epoch) (st .digest)) (with-prepare c v) Tame
         (λ full. tame-with (with-prepare c v) (st .number) (certified (c .view .epoch) (st .digest) (place-at (with-prepare c v) (st .number))) t₁
-          (omega (arith, backed-long (size c) (enough c) (st .digest) (place-at (with-prepare c v) (st .number) .prepares) full, quorum-low (size c) (c .house .few))))
+        (omega (arith, backed-long (size c) (enough c) (st .digest) (place-at (with-prepare c v) (st .number) .prepares) full, quorum-low (size c) (c .house .few))))
         (λ _. t₁)
 
     tame-checkpoint : v .statement .number ≤ 1000000000000 → Tame (checkpoint-table c v)
@@ -135,7 +135,7 @@ module _ (accepts : Statement → ℕ → Bool) (c : Core) (outbox : List Sealed
         let t₁ : Tame (with-checkpoint c v) = record { stable = h .0; proof = h .2; few = h .3 } in
         cond-both (just-backed (size c) (enough c) (st .digest) row) (move-to (with-checkpoint c v) (st .number) (listed (backers (st .digest) row))) (with-checkpoint c v) Tame
         (λ full. tame-move (with-checkpoint c v) (st .number) (listed (backers (st .digest) row)) t₁ low
-          (omega (arith, backed-long (size c) (enough c) (st .digest) row full, quorum-low (size c) (c .house .few))))
+        (omega (arith, backed-long (size c) (enough c) (st .digest) row full, quorum-low (size c) (c .house .few))))
         (λ _. t₁)
 
     low-number : eqb (v .statement .kind) 3 ≡ false → eqb (v .statement .kind) 4 ≡ false → v .statement .number ≤ 1000000000000
@@ -153,8 +153,8 @@ module _ (accepts : Statement → ℕ → Bool) (c : Core) (outbox : List Sealed
         cond-both (eqb (st .kind) 3) (prepare-table c v) (cond (eqb (st .kind) 4) (commit-table c v) (checkpoint-table c v)) Tame
         (λ _. tame-prepare)
         (λ n₃. cond-both (eqb (st .kind) 4) (commit-table c v) (checkpoint-table c v) Tame
-          (λ _. tame-with (c .table) (st .number) (committed (st .signer) (ballot-of v) (place-at (c .table) (st .number))) (tame c h) (h .3 (st .number - c .table .stable - 1)))
-          (λ n₄. tame-checkpoint (low-number n₃ n₄)))
+        (λ _. tame-with (c .table) (st .number) (committed (st .signer) (ballot-of v) (place-at (c .table) (st .number))) (tame c h) (h .3 (st .number - c .table .stable - 1)))
+        (λ n₄. tame-checkpoint (low-number n₃ n₄)))
 
 -- what was voted is where a delivery begins
 pub voted-reached : {X : Type 0} (next : X → ℕ → ℕ → ℕ → X) (marked : X → ℕ) (c : Core) (box : List Sealed) (t : Table) (issued : List Statement) (c′ : Core) (x : X) (box′ : List Sealed) (p : Progress)

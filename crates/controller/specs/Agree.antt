@@ -42,13 +42,13 @@ abbrev pub new-refusal : (Statement → ℕ → Bool) → Core → List Sealed �
 new-refusal accepts c outbox new =
     let st = new .statement in
     first-of (
-      (cramped outbox, Room)
-      ∷ (not (eqb (st .kind) 8) || not (eqb (st .held) 0), Kind)
-      ∷ (leb (size c) (st .signer), Signer)
-      ∷ (stale (c .view) (st .epoch), Epoch)
-      ∷ (no-set-of (size c) st, Authority)
-      ∷ (not (accepts st (new .seal)), Seal)
-      ∷ [])
+    (cramped outbox, Room)
+    ∷ (not (eqb (st .kind) 8) || not (eqb (st .held) 0), Kind)
+    ∷ (leb (size c) (st .signer), Signer)
+    ∷ (stale (c .view) (st .epoch), Epoch)
+    ∷ (no-set-of (size c) st, Authority)
+    ∷ (not (accepts st (new .seal)), Seal)
+    ∷ [])
 
 -- what the calls that deliver nothing make of a core
 abbrev pub turn-core : Core → Core

@@ -92,10 +92,10 @@ undelivered (Some last) d = ltb d last
 abbrev pub turn-refusal : Core → List Sealed → Option Refusal
 turn-refusal c outbox =
     first-of (
-      (cramped outbox, Room)
-      ∷ (c .view .changing || undelivered (c .view .last) (c .delivered), Unfinished)
-      ∷ (last-epoch (c .view .epoch), LastEpoch)
-      ∷ [])
+    (cramped outbox, Room)
+    ∷ (c .view .changing || undelivered (c .view .last) (c .delivered), Unfinished)
+    ∷ (last-epoch (c .view .epoch), LastEpoch)
+    ∷ [])
 
 -- the first number after the last
 abbrev pub after-last : Option ℕ → ℕ

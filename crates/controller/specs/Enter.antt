@@ -51,13 +51,13 @@ module _ (accepts : Statement → ℕ → Bool) where
       let st = new .statement in
       or-else
       (first-of (
-        (cramped outbox, Room)
-        ∷ (not (eqb (st .kind) 8) || not (eqb (st .held) 0), Kind)
-        ∷ (leb (size c) (st .signer), Signer)
-        ∷ (stale (c .view) (st .epoch), Epoch)
-        ∷ (no-set-of (size c) st, Authority)
-        ∷ (not (accepts st (new .seal)), Seal)
-        ∷ []))
+      (cramped outbox, Room)
+      ∷ (not (eqb (st .kind) 8) || not (eqb (st .held) 0), Kind)
+      ∷ (leb (size c) (st .signer), Signer)
+      ∷ (stale (c .view) (st .epoch), Epoch)
+      ∷ (no-set-of (size c) st, Authority)
+      ∷ (not (accepts st (new .seal)), Seal)
+      ∷ []))
       (elim walk [ Err i ↦ Some (Record i) | Ok o ↦ cond (eqb (st .number) (o .base)) None (Some Number) ])
 
 -- checkpoints as votes

@@ -82,16 +82,16 @@ module _ (accepts : Statement → ℕ → Bool) (value : List ℕ → DigestValu
       let st = p .statement in
       or-else
       (first-of (
-        (cramped outbox, Room)
-        ∷ (not (eqb (st .kind) 2) || not (eqb (st .held) 0), Kind)
-        ∷ (leb (size c) (st .signer), Signer)
-        ∷ (c .view .changing || not (eqb (st .epoch) (c .view .epoch)), Epoch)
-        ∷ (not-offered c (st .number), Number)
-        ∷ (isSome (place-at (c .table) (st .number) .proposal), Standing)
-        ∷ (not (owns (size c) (c .view) (st .number) (st .signer)), Authority)
-        ∷ (no-batch-of value (st .digest) rs, BadBatch)
-        ∷ (not (accepts st (p .seal)), Seal)
-        ∷ []))
+      (cramped outbox, Room)
+      ∷ (not (eqb (st .kind) 2) || not (eqb (st .held) 0), Kind)
+      ∷ (leb (size c) (st .signer), Signer)
+      ∷ (c .view .changing || not (eqb (st .epoch) (c .view .epoch)), Epoch)
+      ∷ (not-offered c (st .number), Number)
+      ∷ (isSome (place-at (c .table) (st .number) .proposal), Standing)
+      ∷ (not (owns (size c) (c .view) (st .number) (st .signer)), Authority)
+      ∷ (no-batch-of value (st .digest) rs, BadBatch)
+      ∷ (not (accepts st (p .seal)), Seal)
+      ∷ []))
       (at-request (first-bad c (st .number) rs 0 rs))
 
 -- what a controller says when it accepts a proposal

@@ -25,11 +25,11 @@ abbrev pub supply-refusal : (List ℕ → DigestValue) → Core → List Sealed 
 supply-refusal value c outbox s rs =
     let p = place-at (c .table) s in
     first-of (
-      (cramped outbox, Room)
-      ∷ (not (in-window (c .table) s), Number)
-      ∷ (not (isSome (p .proposal)) || isSome (p .batch), Unproposed)
-      ∷ (no-batch-of value (valueOr (p .proposal) (value-of 0)) rs, BadBatch)
-      ∷ [])
+    (cramped outbox, Room)
+    ∷ (not (in-window (c .table) s), Number)
+    ∷ (not (isSome (p .proposal)) || isSome (p .batch), Unproposed)
+    ∷ (no-batch-of value (valueOr (p .proposal) (value-of 0)) rs, BadBatch)
+    ∷ [])
 
 module _ {X : Type 0} (next : X → ℕ → ℕ → ℕ → X) (marked : X → ℕ) where
   abbrev pub supply-effect : Core → X → ℕ → List Request → Effect X

@@ -43,15 +43,15 @@ abbrev pub vote-refusal : (Statement → ℕ → Bool) → Core → List Sealed 
 vote-refusal accepts c outbox v =
     let st = v .statement in
     first-of (
-      (cramped outbox, Room)
-      ∷ (no-vote-kind st, Kind)
-      ∷ (leb (size c) (st .signer), Signer)
-      ∷ (of-epoch (st .kind) && (c .view .changing || not (eqb (st .epoch) (c .view .epoch))), Epoch)
-      ∷ (not-voted c st, Number)
-      ∷ (of-epoch (st .kind) && not (proposes (place-at (c .table) (st .number) .proposal) (st .digest)), Unproposed)
-      ∷ (vote-stands (c .table) st, Standing)
-      ∷ (not (accepts st (v .seal)), Seal)
-      ∷ [])
+    (cramped outbox, Room)
+    ∷ (no-vote-kind st, Kind)
+    ∷ (leb (size c) (st .signer), Signer)
+    ∷ (of-epoch (st .kind) && (c .view .changing || not (eqb (st .epoch) (c .view .epoch))), Epoch)
+    ∷ (not-voted c st, Number)
+    ∷ (of-epoch (st .kind) && not (proposes (place-at (c .table) (st .number) .proposal) (st .digest)), Unproposed)
+    ∷ (vote-stands (c .table) st, Standing)
+    ∷ (not (accepts st (v .seal)), Seal)
+    ∷ [])
 
 abbrev pub ballot-of : Sealed → Ballot
 ballot-of v = record { digest = v .statement .digest; seal = v .seal }

@@ -65,7 +65,8 @@ impl<D: Digest, A: Application> Controller<D, A> {
         ensures agrees { λ r. ⌜ Agrees (offered (accepts (now (checker .entry))) (value (now (self .entry) .digest)) (now (self .entry) .core) (now (self .entry) .app) (now (outbox .entry)) (now (proposal .entry)) (now (requests .entry))) r (now (self .exit) .core) (now (self .exit) .app) (now (outbox .exit)) ⌝ }
         ensures digest { λ _. ⌜ now (self .exit) .digest ≡ now (self .entry) .digest ⌝ }
     {
-        match self.core.refuses_offer(checker, &self.digest, proposal, requests, outbox) {
+        match self.core
+            .refuses_offer(checker, &self.digest, proposal, requests, outbox) {
             Some(refusal) => Err(refusal),
             None => {
                 self.core.accept_offer(proposal, requests, outbox);
@@ -103,12 +104,14 @@ impl<D: Digest, A: Application> Controller<D, A> {
         ensures agrees { λ r. ⌜ Agrees (supplied next marked (value (now (self .entry) .digest)) (now (self .entry) .core) (now (self .entry) .app) (now (outbox .entry)) number (now (requests .entry))) r (now (self .exit) .core) (now (self .exit) .app) (now (outbox .exit)) ⌝ }
         ensures digest { λ _. ⌜ now (self .exit) .digest ≡ now (self .entry) .digest ⌝ }
     {
-        match self.core.refuses_supply(&self.digest, number, requests, outbox) {
+        match self.core
+            .refuses_supply(&self.digest, number, requests, outbox) {
             Some(refusal) => Err(refusal),
             None => {
                 let before = self.core.delivered;
                 self.core.accept_supply(number, requests);
-                let progress = self.core.deliver_ready(&mut self.app, outbox, Progress::none());
+                let progress = self.core
+                    .deliver_ready(&mut self.app, outbox, Progress::none());
                 Ok(progress.answer(before))
             }
         }
@@ -125,11 +128,13 @@ impl<D: Digest, A: Application> Controller<D, A> {
         ensures agrees { λ r. ⌜ Agrees (proved next marked (accepts (now (checker .entry))) (value (now (self .entry) .digest)) (now (self .entry) .core) (now (self .entry) .app) (now (outbox .entry)) number (now (requests .entry)) (now (commits .entry))) r (now (self .exit) .core) (now (self .exit) .app) (now (outbox .exit)) ⌝ }
         ensures digest { λ _. ⌜ now (self .exit) .digest ≡ now (self .entry) .digest ⌝ }
     {
-        match self.core.refuses_prove(checker, &self.digest, number, requests, commits, outbox) {
+        match self.core
+            .refuses_prove(checker, &self.digest, number, requests, commits, outbox) {
             Some(refusal) => Err(refusal),
             None => {
                 let before = self.core.delivered;
-                let first = self.core.deliver_one(&mut self.app, requests, outbox, Progress::none());
+                let first = self.core
+                    .deliver_one(&mut self.app, requests, outbox, Progress::none());
                 let progress = self.core.deliver_ready(&mut self.app, outbox, first);
                 Ok(progress.answer(before))
             }

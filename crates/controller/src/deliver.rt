@@ -12,12 +12,12 @@ use crate::progress::Progress;
 use crate::records::Answer;
 use crate::records::Core;
 use application::interface::Application;
+use window::delivery::deliver;
 use wire::kinds::CHECKPOINT;
 use wire::records::Batch;
 use wire::records::DigestValue;
 use wire::records::Request;
 use wire::records::Sealed;
-use window::delivery::deliver;
 
 impl Core {
     // The batch that can be delivered next.
@@ -31,7 +31,9 @@ impl Core {
         let Some(d) = place.proposal else {
             return None;
         };
-        if !place.commits.backed(self.house.n(), self.house.quorum(), &d) {
+        if !place
+            .commits
+            .backed(self.house.n(), self.house.quorum(), &d) {
             return None;
         }
         place.batch
@@ -47,7 +49,13 @@ impl Core {
         if self.delivered % 16 != 0 {
             return 0;
         }
-        outbox[at] = said(CHECKPOINT, self.house.own(), 0, self.delivered, DigestValue::from_number(mark));
+        outbox[at] = said(
+            CHECKPOINT,
+            self.house.own(),
+            0,
+            self.delivered,
+            DigestValue::from_number(mark),
+        );
         1
     }
 

@@ -119,7 +119,12 @@ fn write_certificates(places: &[Place], base: u64, at: usize, outbox: &mut [Seal
 {
     let mut written = 0;
     for i in 0..places.len() {
-        written += write_certificate(&places[i].certificate, base + 1 + i as u64, at + written, outbox);
+        written += write_certificate(
+            &places[i].certificate,
+            base + 1 + i as u64,
+            at + written,
+            outbox,
+        );
     }
     written
 }
@@ -133,8 +138,21 @@ impl Core {
         ensures long { λ _. ⌜ length (now (self .entry) .table .places) ≡ 32 ⌝ }
     {
         let base = self.table.stable;
-        outbox[0] = said(STABLE, self.house.own(), target, base, DigestValue::from_number(0));
-        write_helds(&self.table.places, self.house.own(), target, base, 1, outbox);
+        outbox[0] = said(
+            STABLE,
+            self.house.own(),
+            target,
+            base,
+            DigestValue::from_number(0),
+        );
+        write_helds(
+            &self.table.places,
+            self.house.own(),
+            target,
+            base,
+            1,
+            outbox,
+        );
     }
 
     // Writes the evidence from place 33 on: the checkpoints behind the stable number, and each

@@ -31,6 +31,12 @@ impl Core {
             Ok(batch) => self.table.fill(st.number, st.digest, Some(batch)),
             Err(_) => {}
         }
-        outbox[0] = said(PREPARE, self.house.own(), self.view.epoch, st.number, st.digest);
+        outbox[0] = said(
+            PREPARE,
+            self.house.own(),
+            self.view.epoch,
+            st.number,
+            st.digest,
+        );
     }
 }

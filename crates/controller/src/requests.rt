@@ -22,8 +22,7 @@ pub(crate) fn is_no_batch<D: Digest>(digest: &D, wanted: &DigestValue, requests:
 {
     match batch_digest(digest, requests) {
         Ok(d) => {
-            !d.equals(wanted)
-                || (requests.len() > 0 && d.equals(&DigestValue::from_number(0)))
+            !d.equals(wanted) || (requests.len() > 0 && d.equals(&DigestValue::from_number(0)))
         }
         Err(_) => true,
     }
@@ -97,7 +96,8 @@ impl Core {
         if is_known(&self.table.places, self.table.stable, self.delivered, q) {
             return true;
         }
-        if !self.view.in_bucket(self.house.n(), s, bucket(digest, q.client, q.timestamp)) {
+        if !self.view
+            .in_bucket(self.house.n(), s, bucket(digest, q.client, q.timestamp)) {
             return true;
         }
         !checker.genuine(&q.statement(), q.seal)

@@ -34,7 +34,8 @@ impl Core {
         ensures { λ r. ⌜ r ≡ just-backed (size (now (self .entry))) (enough (now (self .entry))) (now (digest .entry)) (place-at (now (self .entry) .table) s .prepares) ⌝ }
     {
         match self.table.place(s) {
-            Some(p) => p.prepares.just_backed(self.house.n(), self.house.quorum(), digest),
+            Some(p) => p.prepares
+                .just_backed(self.house.n(), self.house.quorum(), digest),
             None => false,
         }
     }
@@ -51,7 +52,13 @@ impl Core {
             return Progress::none();
         }
         self.table.certify(st.number, self.view.epoch, st.digest);
-        outbox[0] = said(COMMIT, self.house.own(), self.view.epoch, st.number, st.digest);
+        outbox[0] = said(
+            COMMIT,
+            self.house.own(),
+            self.view.epoch,
+            st.number,
+            st.digest,
+        );
         Progress::issued(1)
     }
 

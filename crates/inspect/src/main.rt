@@ -24,7 +24,10 @@ fn show_hex_fault(rt: &LibcRuntime, line: u64, fault: HexFault) -> Result<(), An
             rt,
             "{line}: not hexadecimal: character {place} is none of 0-9 and a-f"
         )?,
-        HexFault::Odd(count) => println!(rt, "{line}: not hexadecimal: {count} digits, an odd number")?,
+        HexFault::Odd(count) => println!(
+            rt,
+            "{line}: not hexadecimal: {count} digits, an odd number"
+        )?,
         HexFault::Memory => println!(rt, "{line}: not read: no memory")?,
     }
     Ok(())

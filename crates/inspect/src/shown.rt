@@ -61,11 +61,7 @@ fn show_fields(rt: &LibcRuntime, st: &Statement) -> Result<(), AnyError> {
     Ok(())
 }
 
-pub(crate) fn show_statement(
-    rt: &LibcRuntime,
-    line: u64,
-    sealed: &Sealed,
-) -> Result<(), AnyError> {
+pub(crate) fn show_statement(rt: &LibcRuntime, line: u64, sealed: &Sealed) -> Result<(), AnyError> {
     let st = &sealed.statement;
     let name = kind_name(st.kind);
     let who = if st.kind == 1 { "client" } else { "controller" };

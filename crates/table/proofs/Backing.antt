@@ -67,9 +67,10 @@ module _ (d : DigestValue) (xs : List (Option Ballot)) (i : ℕ) (w : Votes) (lt
   pub one-joined : (v : Vote) (after : Votes) → vote-for d i (getD xs i None) ≡ Some v → after ≡ record { count = w .count + 1; list = set (w .list) (w .count) v }
       → (after ≡ listed (backers-from d 0 (take (i + 1) xs))) × (length (backers-from d 0 (take (i + 1) xs)) ≤ i + 1)
   one-joined v after e was =
-      let more = backers-more d xs i lt ∙ ap (λ o. backers-from d 0 (take i xs) ++ before o []) e in
-      (was ∙ (listed-push (backers-from d 0 (take i xs)) v w (omega arith) is ∙ ap listed (sym more)),
-        omega (arith, ap length more, length-append (backers-from d 0 (take i xs)) (v ∷ [])))
+      let more = backers-more d xs i lt ∙ ap (λ o. backers-from d 0 (take i xs) ++ before o []) e in (
+        was ∙ (listed-push (backers-from d 0 (take i xs)) v w (omega arith) is ∙ ap listed (sym more)),
+        omega (arith, ap length more, length-append (backers-from d 0 (take i xs)) (v ∷ [])),
+      )
 
   pub none-joined : vote-for d i (getD xs i None) ≡ None → (w ≡ listed (backers-from d 0 (take (i + 1) xs))) × (length (backers-from d 0 (take (i + 1) xs)) ≤ i + 1)
   none-joined e =

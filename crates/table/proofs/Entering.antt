@@ -22,7 +22,6 @@ entered-push k cs (x ∷ xs) p =
     ap (λ l. entered (getD cs k None) x ∷ l) (entered-push (k + 1) cs xs p ∙ ap (λ m. all-entered (k + 1) cs xs ++ entered (getD cs m None) p ∷ []) e)
 
 module _ (cs : List (Option DigestValue)) (es ps : List Place) (i : ℕ) (lt : i < length es) (is : ps ≡ all-entered 0 cs (take i es) ++ drop i es) where
-
   long : length (all-entered 0 cs (take i es)) ≡ i
   long = length-entered 0 cs (take i es) ∙ length-take-le i es (omega arith)
 

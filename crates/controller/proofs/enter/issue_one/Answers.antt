@@ -16,8 +16,8 @@ returns-in-Some c =
       value = sym (ap (λ o. length (prepares-chosen (a .signer) (a .epoch) (a .number) (o ∷ []))) is);
       few = omega arith;
       outbox = ap (set (a .outbox .now) (a .at)) (c .said .ensures)
-        ∙ (written-one (a .at) (unsealed (said 3 (a .signer) (a .epoch) (a .number) (c .in-Some .d))) (a .outbox .now) (c .pre)
-        ∙ sym (ap (λ o. written-at (a .at) (map unsealed (prepares-chosen (a .signer) (a .epoch) (a .number) (o ∷ []))) (a .outbox .now)) is));
+          ∙ (written-one (a .at) (unsealed (said 3 (a .signer) (a .epoch) (a .number) (c .in-Some .d))) (a .outbox .now) (c .pre)
+          ∙ sym (ap (λ o. written-at (a .at) (map unsealed (prepares-chosen (a .signer) (a .epoch) (a .number) (o ∷ []))) (a .outbox .now)) is));
     }
 
 pub returns-in-None : need.returns-in-None

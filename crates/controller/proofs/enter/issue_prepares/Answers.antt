@@ -18,7 +18,7 @@ loop-i-again c =
     let inv = c .loop-i .inv in
     let w = c .issue-one-issued in
     let more = issued-more (c .args .signer) (c .args .epoch) (c .args .s) (c .args .chosen .now) (c .loop-i .i) (c .loop-i .issued) (w .result) (c .args .outbox .now) (c .loop-i .outbox) (w .last .outbox)
-        (c .loop-i-test .taken) (omega (arith, inv .2, c .pre .room, c .pre .few .0)) (inv .0) (inv .1) (w .ensures .value) (w .ensures .outbox) in
+    (c .loop-i-test .taken) (omega (arith, inv .2, c .pre .room, c .pre .few .0)) (inv .0) (inv .1) (w .ensures .value) (w .ensures .outbox) in
     (more .0, more .1, omega (arith, inv .2, w .ensures .few))
 
 pub returns : need.returns

@@ -17,7 +17,7 @@ loop-i-again c =
     let inv = c .loop-i .inv in
     let w = c .write-certificate-written in
     let more = certificate-more (c .args .base + 1) (c .args .places .now) (c .loop-i .i) (c .args .at) (c .loop-i .written) (w .result) (c .args .outbox .now) (c .loop-i .outbox) (w .last .outbox)
-        (c .loop-i-test .taken) (omega (arith, inv .2, c .pre .room, c .pre .few .0)) (inv .0) (inv .1) (w .ensures .value) (w .ensures .outbox) in
+    (c .loop-i-test .taken) (omega (arith, inv .2, c .pre .room, c .pre .few .0)) (inv .0) (inv .1) (w .ensures .value) (w .ensures .outbox) in
     (more .0, more .1, omega (arith, inv .2, w .ensures .few))
 
 pub write-certificate-written-requires : need.write-certificate-written-requires

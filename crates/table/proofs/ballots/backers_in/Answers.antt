@@ -22,9 +22,9 @@ loop-i-again c =
     let Kept : Votes → Type 0 = λ v. (v ≡ listed (backers-from d 0 (take (i + 1) xs))) × (length (backers-from d 0 (take (i + 1) xs)) ≤ i + 1) in
     elim (c .match-vote-for .came) [
       | in-Some w ↦ subst Kept (sym (w .votes-is))
-        (one-joined d xs i (c .loop-i .votes) (c .loop-i-test .taken) (omega (arith, c .pre)) (c .loop-i .inv .0) (c .loop-i .inv .1) (w .in-Some .vote) (w .push .last .self) (sym (w .in-Some .ensures tt)) (w .push .ensures))
+          (one-joined d xs i (c .loop-i .votes) (c .loop-i-test .taken) (omega (arith, c .pre)) (c .loop-i .inv .0) (c .loop-i .inv .1) (w .in-Some .vote) (w .push .last .self) (sym (w .in-Some .ensures tt)) (w .push .ensures))
       | in-None w ↦ subst Kept (sym (w .votes-is))
-        (none-joined d xs i (c .loop-i .votes) (c .loop-i-test .taken) (omega (arith, c .pre)) (c .loop-i .inv .0) (c .loop-i .inv .1) (sym (w .in-None .ensures tt)))
+          (none-joined d xs i (c .loop-i .votes) (c .loop-i-test .taken) (omega (arith, c .pre)) (c .loop-i .inv .0) (c .loop-i .inv .1) (sym (w .in-None .ensures tt)))
     ]
 
 pub returns : need.returns

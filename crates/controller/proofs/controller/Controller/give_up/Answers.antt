@@ -18,6 +18,6 @@ returns-in-None g c =
     let did = c .accept-give-up-forwarded in
     record {
       agrees = gave-agrees core (c .args .self .now .app) (c .args .outbox .now) (give-up-refusal core (c .args .outbox .now)) (did .last .self) (did .last .outbox) (did .result) (c .quiet .result)
-        (c .in-None .ensures tt) (did .ensures .core) (did .ensures .value) (did .ensures .long) (did .ensures .outbox) (c .quiet .ensures);
+          (c .in-None .ensures tt) (did .ensures .core) (did .ensures .value) (did .ensures .long) (did .ensures .outbox) (c .quiet .ensures);
       digest = refl;
     }

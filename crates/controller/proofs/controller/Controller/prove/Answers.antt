@@ -46,11 +46,11 @@ returns-in-None g c =
     let p = c .deliver-ready-progress .result in
     let one = deliver-one next marked (own core) (begin next marked core x []) rs in
     let was : Reached core box no-progress one (first .last .self) (first .last .app) (first .last .outbox) (first .result) =
-        subst (λ q. Reached core box q one (first .last .self) (first .last .app) (first .last .outbox) (first .result)) (c .none .ensures) (first .ensures .reached) in
+    subst (λ q. Reached core box q one (first .last .self) (first .last .app) (first .last .outbox) (first .result)) (c .none .ensures) (first .ensures .reached) in
     let reached = goes-on next marked core box no-progress one (first .last .self) (first .last .app) (first .last .outbox) (first .result) was (omega (arith, may .1, more .0, issued))
-        (last .self) (last .app) (last .outbox) p (c .deliver-ready-progress .ensures .reached) in
+    (last .self) (last .app) (last .outbox) p (c .deliver-ready-progress .ensures .reached) in
     record {
       agrees = delivered-agrees next marked core core x box (prove-refusal (g .C·SealChecker .accepts (c .args .checker .now)) (g .D·Digest .value (c .args .self .now .digest)) core box (c .args .number) rs (c .args .commits .now)) one
-        (last .self) (last .app) (last .outbox) p (c .answer .result) (c .in-None .ensures tt) reached (c .answer .ensures);
+          (last .self) (last .app) (last .outbox) p (c .answer .result) (c .in-None .ensures tt) reached (c .answer .ensures);
       digest = refl;
     }

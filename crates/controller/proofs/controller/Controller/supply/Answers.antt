@@ -35,10 +35,11 @@ deliver-ready-progress-requires g c κs =
 pub ghost-self-in-None : need.ghost-self-in-None
 ghost-self-in-None g c =
     let t = supply-tame (c .args .self .now .core) (c .args .number) (c .args .requests .now) (c .args .self .now .sound) in
-    let start = begin (g .A·Application .next) (g .A·Application .marked) (c .accept-supply .last .self) (c .args .self .now .app) [] in
-    (flow-sound (g .A·Application .next) (g .A·Application .marked) (c .accept-supply .last .self) (deliver-ready (g .A·Application .next) (g .A·Application .marked) 32 (c .accept-supply .last .self) start)
-      (c .deliver-ready-progress .last .self) (c .deliver-ready-progress .ensures .reached .core) (subst (λ (k : Core). Tame (k .table)) (sym (c .accept-supply .ensures)) t) (c .deliver-ready-progress .ensures .low),
-      tt)
+    let start = begin (g .A·Application .next) (g .A·Application .marked) (c .accept-supply .last .self) (c .args .self .now .app) [] in (
+      flow-sound (g .A·Application .next) (g .A·Application .marked) (c .accept-supply .last .self) (deliver-ready (g .A·Application .next) (g .A·Application .marked) 32 (c .accept-supply .last .self) start)
+          (c .deliver-ready-progress .last .self) (c .deliver-ready-progress .ensures .reached .core) (subst (λ (k : Core). Tame (k .table)) (sym (c .accept-supply .ensures)) t) (c .deliver-ready-progress .ensures .low),
+      tt,
+    )
 
 pub returns-in-None : need.returns-in-None
 returns-in-None g c =
@@ -51,10 +52,10 @@ returns-in-None g c =
     let last = c .deliver-ready-progress .last in
     let p = c .deliver-ready-progress .result in
     let reached : Reached after box no-progress (deliver-ready next marked 32 after (begin next marked after x [])) (last .self) (last .app) (last .outbox) p =
-        subst (λ q. Reached after box q (deliver-ready next marked 32 after (begin next marked after x [])) (last .self) (last .app) (last .outbox) p) (c .none .ensures)
-        (subst (λ k. Reached k box (c .none .result) (deliver-ready next marked 32 k (begin next marked k x [])) (last .self) (last .app) (last .outbox) p) (c .accept-supply .ensures) (c .deliver-ready-progress .ensures .reached)) in
+    subst (λ q. Reached after box q (deliver-ready next marked 32 after (begin next marked after x [])) (last .self) (last .app) (last .outbox) p) (c .none .ensures)
+    (subst (λ k. Reached k box (c .none .result) (deliver-ready next marked 32 k (begin next marked k x [])) (last .self) (last .app) (last .outbox) p) (c .accept-supply .ensures) (c .deliver-ready-progress .ensures .reached)) in
     record {
       agrees = delivered-agrees next marked core after x box (supply-refusal (g .D·Digest .value (c .args .self .now .digest)) core box (c .args .number) (c .args .requests .now)) (begin next marked after x [])
-        (last .self) (last .app) (last .outbox) p (c .answer .result) (c .in-None .ensures tt) reached (c .answer .ensures);
+          (last .self) (last .app) (last .outbox) p (c .answer .result) (c .in-None .ensures tt) reached (c .answer .ensures);
       digest = refl;
     }

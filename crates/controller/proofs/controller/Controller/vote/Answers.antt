@@ -37,10 +37,11 @@ ghost-self g c =
     let core = c .args .self .now .core in
     let accepts = g .C·SealChecker .accepts (c .args .checker .now) in
     let after = c .accept-vote-issued .last .self in
-    let t = vote-tame accepts core (c .args .outbox .now) (c .args .vote .now) (c .in-None .ensures tt) (c .args .self .now .sound) in
-    (flow-sound (g .A·Application .next) (g .A·Application .marked) after (deliver-ready (g .A·Application .next) (g .A·Application .marked) 32 after (begin (g .A·Application .next) (g .A·Application .marked) after (c .args .self .now .app) [])) (c .deliver-ready-progress .last .self) (c .deliver-ready-progress .ensures .reached .core)
-      (subst (λ (k : Core). Tame (k .table)) (sym (c .accept-vote-issued .ensures .core)) t) (c .deliver-ready-progress .ensures .low),
-      tt)
+    let t = vote-tame accepts core (c .args .outbox .now) (c .args .vote .now) (c .in-None .ensures tt) (c .args .self .now .sound) in (
+      flow-sound (g .A·Application .next) (g .A·Application .marked) after (deliver-ready (g .A·Application .next) (g .A·Application .marked) 32 after (begin (g .A·Application .next) (g .A·Application .marked) after (c .args .self .now .app) [])) (c .deliver-ready-progress .last .self) (c .deliver-ready-progress .ensures .reached .core)
+          (subst (λ (k : Core). Tame (k .table)) (sym (c .accept-vote-issued .ensures .core)) t) (c .deliver-ready-progress .ensures .low),
+      tt,
+    )
 
 pub returns-in-None : need.returns-in-None
 returns-in-None g c =
@@ -61,9 +62,9 @@ returns-in-None g c =
     let start = begin next marked after x (vote-issued core v) in
     let was = voted-reached next marked core box (vote-table core v) (vote-issued core v) (vote .last .self) x (vote .last .outbox) (vote .result) (vote .ensures) in
     let reached = goes-on next marked after box no-progress start (vote .last .self) x (vote .last .outbox) (vote .result) was (omega (arith, room, few, issued))
-        (last .self) (last .app) (last .outbox) p (c .deliver-ready-progress .ensures .reached) in
+    (last .self) (last .app) (last .outbox) p (c .deliver-ready-progress .ensures .reached) in
     record {
       agrees = delivered-agrees next marked core after x box (vote-refusal accepts core box v) start
-        (last .self) (last .app) (last .outbox) p (c .answer .result) (c .in-None .ensures tt) reached (c .answer .ensures);
+          (last .self) (last .app) (last .outbox) p (c .answer .result) (c .in-None .ensures tt) reached (c .answer .ensures);
       digest = refl;
     }

@@ -14,7 +14,7 @@ votes-of-proof-requires c κs =
 pub returns : need.returns
 returns c =
     let made = enter-made (c .args .self .now) (c .args .new .now) (c .args .records .now) (c .args .opened .now) (c .quorum .result) (c .checkpoints .result .now) (c .votes-of-proof .result) (c .move-to .last .self) (c .enter .last .self)
-        (c .choices-chosen .result) (c .own .result) (c .number .result) (c .issue-prepares-issued .result) (c .args .outbox .now) (c .issue-prepares-issued .last .outbox)
-        (c .quorum .ensures .exact) (c .checkpoints .ensures) (c .votes-of-proof .ensures) (c .move-to .ensures) (c .choices-chosen .ensures) (c .own .ensures)
-        (c .issue-prepares-issued .ensures .value) (c .issue-prepares-issued .ensures .outbox) (c .enter .ensures) (c .number .ensures) in
+    (c .choices-chosen .result) (c .own .result) (c .number .result) (c .issue-prepares-issued .result) (c .args .outbox .now) (c .issue-prepares-issued .last .outbox)
+    (c .quorum .ensures .exact) (c .checkpoints .ensures) (c .votes-of-proof .ensures) (c .move-to .ensures) (c .choices-chosen .ensures) (c .own .ensures)
+    (c .issue-prepares-issued .ensures .value) (c .issue-prepares-issued .ensures .outbox) (c .enter .ensures) (c .number .ensures) in
     record { core = made .core; value = made .value; outbox = made .outbox }

@@ -26,6 +26,6 @@ returns c =
       value = sym (ap length one);
       few = omega arith;
       outbox = ap (λ x. set (c .args .outbox .now) (c .args .at) x) is
-        ∙ (written-one (c .args .at) (unsealed (said 5 (self .house .own) 0 (self .delivered) (value-of (c .args .mark)))) (c .args .outbox .now) (c .pre)
-        ∙ sym (ap (λ l. written-at (c .args .at) (map unsealed l) (c .args .outbox .now)) one));
+          ∙ (written-one (c .args .at) (unsealed (said 5 (self .house .own) 0 (self .delivered) (value-of (c .args .mark)))) (c .args .outbox .now) (c .pre)
+          ∙ sym (ap (λ l. written-at (c .args .at) (map unsealed l) (c .args .outbox .now)) one));
     }

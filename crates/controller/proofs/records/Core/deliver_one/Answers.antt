@@ -10,7 +10,7 @@ returns g c =
     let few = one-few next marked self (c .args .app .now) (c .args .requests .now) (c .deliver-tally .last .windows) (c .deliver-tally .last .app) (c .deliver-tally .result .applied) (c .deliver-tally .result .passed) (c .deliver-tally .ensures) (c .pre .few) in
     record {
       reached = one-reached next marked self (c .args .app .now) (c .args .requests .now) (c .deliver-tally .last .windows) (c .deliver-tally .last .app) (c .deliver-tally .result .applied) (c .deliver-tally .result .passed) (c .deliver-tally .ensures)
-        (c .args .outbox .now) (c .args .so-far) (c .mark .result) (c .checkpoint-issued .result) (c .checkpoint-issued .last .outbox) (c .mark .ensures) (c .checkpoint-issued .ensures .value) (c .checkpoint-issued .ensures .outbox);
+          (c .args .outbox .now) (c .args .so-far) (c .mark .result) (c .checkpoint-issued .result) (c .checkpoint-issued .last .outbox) (c .mark .ensures) (c .checkpoint-issued .ensures .value) (c .checkpoint-issued .ensures .outbox);
       more = (omega (arith, c .checkpoint-issued .ensures .few), omega arith, omega (arith, few .0), omega (arith, few .1));
     }
 

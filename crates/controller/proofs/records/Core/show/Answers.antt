@@ -9,7 +9,7 @@ returns c =
     let few = proof-few (self .table) (c .as-slice-proof .result .now) (c .as-slice-proof .ensures) (c .pre .sound .2) in
     let w = c .write-certificates-prepares in
     let made = show-made (self .table) (c .as-slice-proof .result .now) (w .result) (c .args .outbox .now) (c .write-votes .last .outbox) (w .last .outbox)
-        (c .as-slice-proof .ensures) (omega (arith, few, c .pre .room)) (c .write-votes .ensures) (w .ensures .value) (w .ensures .outbox) in
+    (c .as-slice-proof .ensures) (omega (arith, few, c .pre .room)) (c .write-votes .ensures) (w .ensures .value) (w .ensures .outbox) in
     record { value = made .0; outbox = made .1 }
 
 pub write-votes-requires : need.write-votes-requires

@@ -11,6 +11,6 @@ returns c =
     let self = c .args .self .now in
     record {
       outbox = tell-made self (c .args .target) (c .own-2 .result) (c .args .outbox .now) (c .write-helds .last .outbox) (c .said .result) (c .pre .room)
-        (c .said .ensures ∙ (λ i. unsealed (said 6 (c .own .ensures i) (c .args .target) (self .table .stable) (c .from-number .ensures i)))) (c .own-2 .ensures) (c .write-helds .ensures);
+          (c .said .ensures ∙ (λ i. unsealed (said 6 (c .own .ensures i) (c .args .target) (self .table .stable) (c .from-number .ensures i)))) (c .own-2 .ensures) (c .write-helds .ensures);
       long = search needs;
     }
