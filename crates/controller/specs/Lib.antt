@@ -9,3 +9,5 @@ pub mod Supply
 pub mod Prove
 pub mod Change
 pub mod Enter
+pub mod Agree
+pub mod Sound
