@@ -9,6 +9,7 @@ mod leaders;
 mod offer;
 mod post;
 mod progress;
+pub mod reads;
 pub mod records;
 pub mod refusal;
 mod refuse;

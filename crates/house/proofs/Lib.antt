@@ -1,3 +1,4 @@
+mod ByNumber
 pub mod Sketch
 pub mod Global
 pub mod Tables
