@@ -9,7 +9,6 @@ mod leaders;
 mod offer;
 mod post;
 mod progress;
-pub mod reads;
 pub mod records;
 pub mod refusal;
 mod refuse;

@@ -1,4 +1,3 @@
-mod ByNumber
 pub mod Sketch
 pub mod Global
 pub mod Tables

@@ -1,6 +1,4 @@
-pub mod Blunders
-pub mod Example
-pub mod Law
-pub mod Members
 pub mod Runs
-pub mod Unopened
+pub mod Law
+pub mod Example
+pub mod Blunders

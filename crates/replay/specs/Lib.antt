@@ -1,3 +1,0 @@
-pub mod Account
-pub mod Ballots
-pub mod Numbers
