@@ -1,4 +1,6 @@
 // A controller: its code, call by call. What the calls mean and what they are refused for is in `protocol`.
+#![tactic(auto)]
+
 pub mod calls;
 pub mod controller;
 mod deliver;

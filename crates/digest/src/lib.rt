@@ -1,4 +1,6 @@
 // Digests: what a digest is, FNV-1a of 64 bits, and SHA-256.
+#![tactic(auto)]
+
 pub mod batches;
 pub mod fnv;
 pub mod interface;

@@ -1,4 +1,6 @@
 // The dossier: the sealed records that justify a new epoch, and the walk that judges them.
+#![tactic(auto)]
+
 mod held;
 pub mod laws;
 pub mod opened;

@@ -1,5 +1,7 @@
 // Takes recorded frames apart: one frame a line on standard input, in hexadecimal; empty lines and
 // lines that begin with # are skipped. Prints what each says, and an account at the end.
+#![tactic(auto)]
+
 mod account;
 mod frame;
 mod shown;

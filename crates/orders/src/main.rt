@@ -2,6 +2,8 @@
 //     CLIENT TIMESTAMP set TANK DEGREES | fill TANK LITRES | move FROM TO LITRES
 //     CLIENT TIMESTAMP open VALVE AMOUNT | pay CLIENT UNITS
 // Empty lines and lines that begin with # are skipped. It prints what becomes of each order, and an account at the end.
+#![tactic(auto)]
+
 mod account;
 mod day;
 mod line;

@@ -1,4 +1,6 @@
 // What a controller keeps, what its seven calls mean (specs/), and what each is refused for.
+#![tactic(auto)]
+
 pub mod begin;
 pub mod leaders;
 pub mod records;

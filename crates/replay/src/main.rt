@@ -1,5 +1,7 @@
 // Plays a recorded run: what each controller of a house was sent, line by line. Prints what each call
 // answered, and an account at the end with what every controller then holds.
+#![tactic(auto)]
+
 mod account;
 mod fault;
 mod frames;

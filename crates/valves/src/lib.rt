@@ -1,4 +1,6 @@
 // The valves: clients pay to open them, and each other.
+#![tactic(auto)]
+
 mod book;
 mod carry_out;
 pub mod laws;

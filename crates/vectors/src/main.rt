@@ -1,4 +1,6 @@
 // The published vectors of FNV-1a 64 and SHA-256, beside what the digests give for them.
+#![tactic(auto)]
+
 mod published;
 mod words;
 

@@ -1,4 +1,6 @@
 // What controllers and clients send each other: statements, requests and batches, and their frames.
+#![tactic(auto)]
+
 mod batches;
 mod bytes;
 pub mod faults;

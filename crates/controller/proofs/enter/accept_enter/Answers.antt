@@ -3,16 +3,16 @@ use Rattle.dossier.specs.Walk.{checkpoint_group}
 use Rattle.controller.proofs.Chosen.{group_few, enter_made}
 use Rattle.controller.proofs.enter.accept_enter.Goals as goal
 
-pub votes-of-proof-requires : goal.votes-of-proof-requires
-votes-of-proof-requires c =
+pub votes_of-proof-requires : goal.votes_of-proof-requires
+votes_of-proof-requires c =
     let records = c.args.records.now in
     let o = c.args.opened.now in
     omega (arith, group_few c.args.core.now records o, ap length (c.checkpoints.ensures ∙ ap (λ n. checkpoint_group n records o) c.quorum.ensures.exact))
 
 pub returns : goal.returns
 returns c =
-    let made = enter_made c.args.core.now c.args.new.now c.args.records.now c.args.opened.now c.quorum.result c.checkpoints.result.now c.votes-of-proof.result c.move_to.new.self c.enter.new.self
-    c.choices-chosen.result c.own.result c.number.result c.issue-prepares-issued.result c.args.outbox.now c.issue-prepares-issued.new.outbox
-    c.quorum.ensures.exact c.checkpoints.ensures c.votes-of-proof.ensures c.move_to.ensures c.choices-chosen.ensures c.own.ensures
-    c.issue-prepares-issued.ensures.value c.issue-prepares-issued.ensures.outbox c.enter.ensures c.number.ensures in
+    let made = enter_made c.args.core.now c.args.new.now c.args.records.now c.args.opened.now c.quorum.result c.checkpoints.result.now c.votes_of-proof.result c.move_to.new.self c.enter.new.self
+    c.choices-chosen.result c.own.result c.number.result c.issue_prepares-issued.result c.args.outbox.now c.issue_prepares-issued.new.outbox
+    c.quorum.ensures.exact c.checkpoints.ensures c.votes_of-proof.ensures c.move_to.ensures c.choices-chosen.ensures c.own.ensures
+    c.issue_prepares-issued.ensures.value c.issue_prepares-issued.ensures.outbox c.enter.ensures c.number.ensures in
     record { core = made.core; value = made.value; outbox = made.outbox }

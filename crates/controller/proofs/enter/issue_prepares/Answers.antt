@@ -13,7 +13,7 @@ loop-i-init c = (refl, written_none 0 c.args.outbox.now, omega arith)
 pub loop-i-preserved : goal.loop-i-preserved
 loop-i-preserved c =
     let inv = c.loop-i.invariant in
-    let w = c.issue-one-issued in
+    let w = c.issue_one-issued in
     let more = issued_more c.args.signer c.args.epoch c.args.s c.args.chosen.now c.loop-i.i c.loop-i.issued w.result c.args.outbox.now c.loop-i.outbox w.new.outbox
     c.loop-i-test.true (omega (arith, inv.2, c.requires.room, c.requires.few.0)) inv.0 inv.1 w.ensures.value w.ensures.outbox in
     (more.0, more.1, omega (arith, inv.2, w.ensures.few))

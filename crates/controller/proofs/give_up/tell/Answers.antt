@@ -8,7 +8,7 @@ pub returns : goal.returns
 returns c =
     let self = c.args.core.now in
     record {
-      outbox = tell_made self c.args.target c.own-2.result c.args.outbox.now c.write-helds.new.outbox c.said.result c.requires.room
-          (c.said.ensures ∙ (λ i. unsealed (said 6 (c.own.ensures i) c.args.target self.table.stable (c.from-number.ensures i)))) c.own-2.ensures c.write-helds.ensures;
+      outbox = tell_made self c.args.target c.own-2.result c.args.outbox.now c.write_helds.new.outbox c.said.result c.requires.room
+          (c.said.ensures ∙ (λ i. unsealed (said 6 (c.own.ensures i) c.args.target self.table.stable (c.from_number.ensures i)))) c.own-2.ensures c.write_helds.ensures;
       long = search rules;
     }

@@ -12,13 +12,13 @@ loop-i-init c = (refl, written_none c.args.at c.args.outbox.now, omega arith)
 pub loop-i-preserved : goal.loop-i-preserved
 loop-i-preserved c =
     let inv = c.loop-i.invariant in
-    let w = c.write-certificate-written in
+    let w = c.write_certificate-written in
     let more = certificate_more (c.args.base + 1) c.args.places.now c.loop-i.i c.args.at c.loop-i.written w.result c.args.outbox.now c.loop-i.outbox w.new.outbox
     c.loop-i-test.true (omega (arith, inv.2, c.requires.room, c.requires.few.0)) inv.0 inv.1 w.ensures.value w.ensures.outbox in
     (more.0, more.1, omega (arith, inv.2, w.ensures.few))
 
-pub write-certificate-written-requires : goal.write-certificate-written-requires
-write-certificate-written-requires c =
+pub write_certificate-written-requires : goal.write_certificate-written-requires
+write_certificate-written-requires c =
     let inv = c.loop-i.invariant in
     record { few = c.requires.few.1.1 c.loop-i.i; room = omega (arith, inv.2, c.requires.room, c.requires.few.0, c.loop-i.auto.outbox, c.loop-i-test.true) }
 

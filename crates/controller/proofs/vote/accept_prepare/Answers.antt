@@ -9,6 +9,6 @@ returns c =
     let self = c.args.core.now in
     let st = c.args.vote.now.statement in
     prepared_voted self c.args.vote.now c.args.outbox.now c.prepare.new.self c.certify.new.self c.ballot_of.result c.said.result c.issued.result c.requires.room
-    c.ballot_of.ensures c.prepare.ensures (sym c.if-not-is-prepared.false ∙ c.is-prepared.ensures) c.certify.ensures
+    c.ballot_of.ensures c.prepare.ensures (sym c.if-not-is_prepared.false ∙ c.is_prepared.ensures) c.certify.ensures
     (c.said.ensures ∙ ap (λ o. unsealed (said 4 o self.view.epoch st.number st.digest)) c.own.ensures)
     c.issued.ensures

@@ -12,12 +12,12 @@ loop-block-init c = refl
 
 pub loop-block-preserved : goal.loop-block-preserved
 loop-block-preserved c =
-    let more = fold_more compressed initial c.as-chunks.result.0.now c.loop-block.block-index [] c.loop-block-test.true in
-    c.compress-hash.ensures ∙ (ap (λ hs. compressed hs (get_or c.as-chunks.result.0.now c.loop-block.block-index [])) c.loop-block.invariant ∙ sym more)
+    let more = fold_more compressed initial c.as_chunks.result.0.now c.loop-block.block-index [] c.loop-block-test.true in
+    c.compress-hash.ensures ∙ (ap (λ hs. compressed hs (get_or c.as_chunks.result.0.now c.loop-block.block-index [])) c.loop-block.invariant ∙ sym more)
 
 pub returns : goal.returns
 returns c =
-    let all = take_all c.loop-block.block-index c.as-chunks.result.0.now c.loop-block-test.false in
-    hashed c.args.message.now c.as-chunks.result.0.now c.as-chunks.result.1.now c.loop-block.hash c.finish.result c.bytes-of.result
-    c.as-chunks.ensures.front c.as-chunks.ensures.back c.as-chunks.ensures.back_len
-    (c.loop-block.invariant ∙ ap (fold compressed initial) all) c.finish.ensures c.bytes-of.ensures
+    let all = take_all c.loop-block.block-index c.as_chunks.result.0.now c.loop-block-test.false in
+    hashed c.args.message.now c.as_chunks.result.0.now c.as_chunks.result.1.now c.loop-block.hash c.finish.result c.bytes_of.result
+    c.as_chunks.ensures.front c.as_chunks.ensures.back c.as_chunks.ensures.back_len
+    (c.loop-block.invariant ∙ ap (fold compressed initial) all) c.finish.ensures c.bytes_of.ensures

@@ -5,6 +5,6 @@ use Rattle.host.proofs.assembly.add_number.Goals as goal
 
 pub returns : goal.returns
 returns c =
-    IfOk-weaker c.add-prepares.result _ _
-    (λ _ added. number_whole (map vec_items c.args.partings.now) c.args.s (vec_items c.args.out.now) c.in-ok-add-helds.ensures c.claimant-best.ensures c.claim_in.ensures added)
-    c.add-prepares.ensures
+    IfOk-weaker c.add_prepares.result _ _
+    (λ _ added. number_whole (map vec_items c.args.partings.now) c.args.s (vec_items c.args.out.now) c.in_ok-add_helds.ensures c.claimant-best.ensures c.claim_in.ensures added)
+    c.add_prepares.ensures

@@ -7,7 +7,7 @@ returns-then-base-gt-LAST c = numbers_none (map vec_items c.args.partings.now) c
 
 pub loop-k-preserved : goal.loop-k-preserved
 loop-k-preserved c =
-    numbers_turn (map vec_items c.args.partings.now) (c.args.base + 1) c.loop-k.k (vec_items c.args.out.now) c.loop-k.invariant c.in-ok-add-number.ensures
+    numbers_turn (map vec_items c.args.partings.now) (c.args.base + 1) c.loop-k.k (vec_items c.args.out.now) c.loop-k.invariant c.in_ok-add_number.ensures
 
 pub returns : goal.returns
 returns c = numbers_all (map vec_items c.args.partings.now) c.args.base c.loop-k.k (vec_items c.args.out.now) (omega arith) (omega arith) c.loop-k.invariant

@@ -7,7 +7,7 @@ use Rattle.host.proofs.assembly.add_stables.Goals as goal
 pub loop-p-preserved : goal.loop-p-preserved
 loop-p-preserved c =
     joined_turn (one_at 0) vec_items (vec_items c.args.out.now) c.args.partings.now c.loop-p.p-index c.p-item.result c.loop-p-test.true c.p-item.is
-    c.loop-p.invariant c.in-ok-extend-from-slice.ensures.items (c.one-at.ensures ∙ ap (one_at 0) c.as-slice.ensures.value)
+    c.loop-p.invariant c.in_ok-extend_from_slice.ensures.items (c.one_at.ensures ∙ ap (one_at 0) c.as_slice.ensures.value)
 
 pub returns : goal.returns
 returns c = c.loop-p.invariant ∙ ap (λ ps. vec_items c.args.out.now ++ flat_map (one_at 0) (map vec_items ps)) (take_all _ _ c.loop-p-test.false)

@@ -4,5 +4,5 @@ use Rattle.host.proofs.assembly.assemble.Goals as goal
 
 pub returns : goal.returns
 returns c =
-    assembled_whole (map vec_items c.args.partings.now) c.latest-best.ensures c.stable-in-base.ensures c.new-out.ensures.items
-    c.in-ok-add-stables.ensures c.in-ok-add-checkpoints.ensures c.in-ok-add-numbers.ensures
+    assembled_whole (map vec_items c.args.partings.now) c.latest-best.ensures c.stable_in-base.ensures c.new-out.ensures.items
+    c.in_ok-add_stables.ensures c.in_ok-add_checkpoints.ensures c.in_ok-add_numbers.ensures

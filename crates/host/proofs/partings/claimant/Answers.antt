@@ -2,13 +2,13 @@ use Rattle.std.proofs.Common.{map, vec_items, ap, ◌∙◌, take_all}
 use Rattle.host.specs.Partings.{claimed_epoch, highest}
 use Rattle.host.proofs.Turns.{highest_yes, highest_no}
 use Rattle.host.proofs.partings.claimant.Goals as goal
-use Rattle.host.proofs.partings.claimant.Goals.{then-claim-in, else-claim-in}
+use Rattle.host.proofs.partings.claimant.Goals.{then-claim_in, else-claim_in}
 
 pub loop-p-preserved : goal.loop-p-preserved
 loop-p-preserved c =
-    elim c.if-claim-in.branch [
-      | then-claim-in w ↦ ap (λ b. b.now) w.best-is ∙ highest_yes (claimed_epoch c.args.s) vec_items c.args.partings.now c.loop-p.p-index c.p-item.result c.loop-p-test.true c.p-item.is c.loop-p.invariant (ap (λ st. st.held) c.claim_in.ensures) (ap (λ st. st.held) c.claim-in-in-loop-p.ensures) c.as-slice.ensures.value w.if-claim-in.true w.as-slice-best.ensures.value
-      | else-claim-in w ↦ ap (λ b. b.now) w.best-is ∙ highest_no (claimed_epoch c.args.s) vec_items c.args.partings.now c.loop-p.p-index c.p-item.result c.loop-p-test.true c.p-item.is c.loop-p.invariant (ap (λ st. st.held) c.claim_in.ensures) (ap (λ st. st.held) c.claim-in-in-loop-p.ensures) c.as-slice.ensures.value w.if-claim-in.false
+    elim c.if-claim_in.branch [
+      | then-claim_in w ↦ ap (λ b. b.now) w.best-is ∙ highest_yes (claimed_epoch c.args.s) vec_items c.args.partings.now c.loop-p.p-index c.p-item.result c.loop-p-test.true c.p-item.is c.loop-p.invariant (ap (λ st. st.held) c.claim_in.ensures) (ap (λ st. st.held) c.claim_in-in-loop-p.ensures) c.as_slice.ensures.value w.if-claim_in.true w.as_slice-best.ensures.value
+      | else-claim_in w ↦ ap (λ b. b.now) w.best-is ∙ highest_no (claimed_epoch c.args.s) vec_items c.args.partings.now c.loop-p.p-index c.p-item.result c.loop-p-test.true c.p-item.is c.loop-p.invariant (ap (λ st. st.held) c.claim_in.ensures) (ap (λ st. st.held) c.claim_in-in-loop-p.ensures) c.as_slice.ensures.value w.if-claim_in.false
     ]
 
 pub returns : goal.returns

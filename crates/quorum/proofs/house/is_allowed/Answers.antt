@@ -7,6 +7,6 @@ pub returns-in-4 : goal.returns-in-4
 unfolding allowed
 returns-in-4 c = grind (arith, nat_tests)
 
-pub returns-in-default : goal.returns-in-default
+pub returns-in_default : goal.returns-in_default
 unfolding allowed
-returns-in-default c = grind (arith, nat_tests)
+returns-in_default c = grind (arith, nat_tests)

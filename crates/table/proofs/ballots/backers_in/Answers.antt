@@ -14,7 +14,7 @@ loop-i-preserved c =
     let xs = c.args.slots.now in
     let i = c.loop-i.i in
     let Kept : Votes → Type 0 = λ v. (v ≡ listed (backers_from d 0 (take (i + 1) xs))) × (length (backers_from d 0 (take (i + 1) xs)) ≤ i + 1) in
-    elim c.match-vote-for.branch [
+    elim c.match-vote_for.branch [
       | in-Some w ↦ subst Kept (sym w.votes-is)
           (one_joined d xs i c.loop-i.votes c.loop-i-test.true (omega (arith, c.requires)) c.loop-i.invariant.0 c.loop-i.invariant.1 w.in-Some.vote w.push.new.self (sym w.in-Some.ensures) w.push.ensures)
       | in-None w ↦ subst Kept (sym w.votes-is)

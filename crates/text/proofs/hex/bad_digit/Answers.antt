@@ -4,8 +4,8 @@ use Rattle.std.proofs.lemmas.List.{at_drop_more, at_drop_all}
 use Rattle.text.specs.Hex.{first_bad}
 use Rattle.text.proofs.hex.bad_digit.Goals as goal
 
-pub returns-then-not-is-hex-digit : goal.returns-then-not-is-hex-digit
-returns-then-not-is-hex-digit c =
+pub returns-then-not-is_hex_digit : goal.returns-then-not-is_hex_digit
+returns-then-not-is_hex_digit c =
     let step = at_drop_more (first_bad c.loop-i.i) c.args.text.now c.loop-i.i 0 c.loop-i-test.true in
     grind (arith, nat_tests)
 

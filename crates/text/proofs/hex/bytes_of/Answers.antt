@@ -14,5 +14,5 @@ loop-i-init c = c.new-out.ensures.items
 pub loop-i-preserved : goal.loop-i-preserved
 loop-i-preserved c =
     let text = c.args.text.now in
-    pushed (c.byte-at.result ∷ []) c.loop-i.invariant c.in-ok-push.was c.push.ensures.items
-    ∙ (ap (λ b. bytes_of c.loop-i.i text ++ b ∷ []) c.byte-at.ensures ∙ one_more c.loop-i.i text)
+    pushed (c.byte_at.result ∷ []) c.loop-i.invariant c.in_ok-push.was c.push.ensures.items
+    ∙ (ap (λ b. bytes_of c.loop-i.i text ++ b ∷ []) c.byte_at.ensures ∙ one_more c.loop-i.i text)

@@ -7,8 +7,8 @@ use Rattle.valves.proofs.marking.absorb_accounts.Goals as goal
 
 pub loop-a-preserved : goal.loop-a-preserved
 loop-a-preserved c =
-    c.absorb-all-h.ensures
-    ∙ (ap (fnv_from c.loop-a.h) c.to-be-bytes.ensures
+    c.absorb_all-h.ensures
+    ∙ (ap (fnv_from c.loop-a.h) c.to_be_bytes.ensures
     ∙ (ap (λ y. fnv_from y (bytes4 (get_or c.args.accounts.now c.loop-a.a-index 0))) c.loop-a.invariant
     ∙ sym (folded_joined_more mix bytes4 c.args.hash c.args.accounts.now c.loop-a.a-index 0 c.loop-a-test.true)))
 

@@ -7,8 +7,8 @@ use Rattle.valves.proofs.marking.absorb_openings.Goals as goal
 
 pub loop-o-preserved : goal.loop-o-preserved
 loop-o-preserved c =
-    c.absorb-all-h.ensures
-    ∙ (ap (fnv_from c.loop-o.h) c.to-be-bytes.ensures
+    c.absorb_all-h.ensures
+    ∙ (ap (fnv_from c.loop-o.h) c.to_be_bytes.ensures
     ∙ (ap (λ y. fnv_from y (bytes2 (get_or c.args.openings.now c.loop-o.o-index 0))) c.loop-o.invariant
     ∙ sym (folded_joined_more mix bytes2 c.args.hash c.args.openings.now c.loop-o.o-index 0 c.loop-o-test.true)))
 

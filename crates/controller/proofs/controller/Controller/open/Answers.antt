@@ -3,5 +3,5 @@ use Rattle.controller.specs.Sound.{Sound}
 use Rattle.controller.proofs.Passes.{new_sound}
 use Rattle.controller.proofs.controller.Controller.open.Goals as goal
 
-pub invariant-of-result : goal.invariant-of-result
-invariant-of-result g c = (subst Sound (sym c.new-in-Ok.ensures) (new_sound c.in-Ok.house), tt)
+pub invariant_of-result : goal.invariant_of-result
+invariant_of-result g c = (subst Sound (sym c.new-in-Ok.ensures) (new_sound c.in-Ok.house), tt)

@@ -9,12 +9,12 @@ use Rattle.controller.proofs.Flows.{goes_on}
 use Rattle.controller.proofs.Ends.{prove_may, one_low, delivered_agrees}
 use Rattle.controller.proofs.controller.Controller.prove.Goals as goal
 
-pub deliver-ready-progress-requires : goal.deliver-ready-progress-requires
-deliver-ready-progress-requires g c =
+pub deliver_ready-progress-requires : goal.deliver_ready-progress-requires
+deliver_ready-progress-requires g c =
     let core = c.args.self.now.core in
     let may = prove_may (g.C.SealChecker.accepts c.args.checker.now) (g.D.Digest.value c.args.self.now.digest) core c.args.outbox.now c.args.number c.args.requests.now c.args.commits.now c.in-None.ensures in
     let sound = c.args.self.now.sound in
-    let first = c.deliver-one-first in
+    let first = c.deliver_one-first in
     let more = first.ensures.more in
     let none = c.none.ensures in
     let issued = ap (λ (p : Progress). p.issued) none in
@@ -37,16 +37,16 @@ returns-in-None g c =
     let box = c.args.outbox.now in
     let rs = c.args.requests.now in
     let may = prove_may (g.C.SealChecker.accepts c.args.checker.now) (g.D.Digest.value c.args.self.now.digest) core box c.args.number rs c.args.commits.now c.in-None.ensures in
-    let first = c.deliver-one-first in
+    let first = c.deliver_one-first in
     let more = first.ensures.more in
     let issued = ap (λ (p : Progress). p.issued) c.none.ensures in
-    let last = c.deliver-ready-progress.new in
-    let p = c.deliver-ready-progress.result in
+    let last = c.deliver_ready-progress.new in
+    let p = c.deliver_ready-progress.result in
     let one = deliver_one next marked (own core) (begin next marked core x []) rs in
     let was : Reached core box no_progress one first.new.core first.new.app first.new.outbox first.result =
     subst (λ q. Reached core box q one first.new.core first.new.app first.new.outbox first.result) c.none.ensures first.ensures.reached in
     let reached = goes_on next marked core box no_progress one first.new.core first.new.app first.new.outbox first.result was (omega (arith, may.1, more.0, issued))
-    last.core last.app last.outbox p c.deliver-ready-progress.ensures.reached in
+    last.core last.app last.outbox p c.deliver_ready-progress.ensures.reached in
     record {
       agrees = delivered_agrees next marked core core x box (prove_refusal (g.C.SealChecker.accepts c.args.checker.now) (g.D.Digest.value c.args.self.now.digest) core box c.args.number rs c.args.commits.now) one
           last.core last.app last.outbox p c.answer.result c.in-None.ensures reached c.answer.ensures;

@@ -8,15 +8,15 @@ use Rattle.controller.proofs.Kept.{Tame}
 use Rattle.controller.proofs.Ends.{supply_may, supply_tame, flow_sound, delivered_agrees}
 use Rattle.controller.proofs.controller.Controller.supply.Goals as goal
 
-pub accept-supply-requires : goal.accept-supply-requires
-accept-supply-requires g c =
+pub accept_supply-requires : goal.accept_supply-requires
+accept_supply-requires g c =
     (supply_may (g.D.Digest.value c.args.self.now.digest) c.args.self.now.core c.args.outbox.now c.args.number c.args.requests.now c.in-None.ensures).0
 
-pub deliver-ready-progress-requires : goal.deliver-ready-progress-requires
-deliver-ready-progress-requires g c =
+pub deliver_ready-progress-requires : goal.deliver_ready-progress-requires
+deliver_ready-progress-requires g c =
     let may = supply_may (g.D.Digest.value c.args.self.now.digest) c.args.self.now.core c.args.outbox.now c.args.number c.args.requests.now c.in-None.ensures in
     let sound = c.args.self.now.sound in
-    let is = c.accept-supply.ensures in
+    let is = c.accept_supply.ensures in
     let t = supply_tame c.args.self.now.core c.args.number c.args.requests.now sound in
     let none = c.none.ensures in
     let issued = ap (λ (p : Progress). p.issued) none in
@@ -30,12 +30,12 @@ deliver-ready-progress-requires g c =
       begun = (omega arith, omega arith, omega arith, omega arith);
     }
 
-pub invariant-of-self-in-None : goal.invariant-of-self-in-None
-invariant-of-self-in-None g c =
+pub invariant_of-self-in-None : goal.invariant_of-self-in-None
+invariant_of-self-in-None g c =
     let t = supply_tame c.args.self.now.core c.args.number c.args.requests.now c.args.self.now.sound in
-    let start = begin g.A.Application.next g.A.Application.marked c.accept-supply.new.core c.args.self.now.app [] in (
-      flow_sound g.A.Application.next g.A.Application.marked c.accept-supply.new.core (deliver_ready g.A.Application.next g.A.Application.marked 32 c.accept-supply.new.core start)
-          c.deliver-ready-progress.new.core c.deliver-ready-progress.ensures.reached.core (subst (λ (k : Core). Tame k.table) (sym c.accept-supply.ensures) t) c.deliver-ready-progress.ensures.low,
+    let start = begin g.A.Application.next g.A.Application.marked c.accept_supply.new.core c.args.self.now.app [] in (
+      flow_sound g.A.Application.next g.A.Application.marked c.accept_supply.new.core (deliver_ready g.A.Application.next g.A.Application.marked 32 c.accept_supply.new.core start)
+          c.deliver_ready-progress.new.core c.deliver_ready-progress.ensures.reached.core (subst (λ (k : Core). Tame k.table) (sym c.accept_supply.ensures) t) c.deliver_ready-progress.ensures.low,
       tt,
     )
 
@@ -47,11 +47,11 @@ returns-in-None g c =
     let x = c.args.self.now.app in
     let box = c.args.outbox.now in
     let after = supply_core core c.args.number c.args.requests.now in
-    let last = c.deliver-ready-progress.new in
-    let p = c.deliver-ready-progress.result in
+    let last = c.deliver_ready-progress.new in
+    let p = c.deliver_ready-progress.result in
     let reached : Reached after box no_progress (deliver_ready next marked 32 after (begin next marked after x [])) last.core last.app last.outbox p =
     subst (λ q. Reached after box q (deliver_ready next marked 32 after (begin next marked after x [])) last.core last.app last.outbox p) c.none.ensures
-    (subst (λ k. Reached k box c.none.result (deliver_ready next marked 32 k (begin next marked k x [])) last.core last.app last.outbox p) c.accept-supply.ensures c.deliver-ready-progress.ensures.reached) in
+    (subst (λ k. Reached k box c.none.result (deliver_ready next marked 32 k (begin next marked k x [])) last.core last.app last.outbox p) c.accept_supply.ensures c.deliver_ready-progress.ensures.reached) in
     record {
       agrees = delivered_agrees next marked core after x box (supply_refusal (g.D.Digest.value c.args.self.now.digest) core box c.args.number c.args.requests.now) (begin next marked after x [])
           last.core last.app last.outbox p c.answer.result c.in-None.ensures reached c.answer.ensures;

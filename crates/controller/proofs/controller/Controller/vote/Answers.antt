@@ -11,14 +11,14 @@ use Rattle.controller.proofs.Votings.{vote_room, vote_tame, vote_few, voted_reac
 use Rattle.controller.proofs.Ends.{flow_sound, delivered_agrees}
 use Rattle.controller.proofs.controller.Controller.vote.Goals as goal
 
-pub deliver-ready-progress-requires : goal.deliver-ready-progress-requires
-deliver-ready-progress-requires g c =
+pub deliver_ready-progress-requires : goal.deliver_ready-progress-requires
+deliver_ready-progress-requires g c =
     let core = c.args.self.now.core in
     let accepts = g.C.SealChecker.accepts c.args.checker.now in
     let room = vote_room accepts core c.args.outbox.now c.args.vote.now c.in-None.ensures in
     let t = vote_tame accepts core c.args.outbox.now c.args.vote.now c.in-None.ensures c.args.self.now.sound in
     let few = vote_few core c.args.vote.now in
-    let is = c.accept-vote-issued.ensures in
+    let is = c.accept_vote-issued.ensures in
     let issued = ap (λ (p : Progress). p.issued) is.progress in
     let batches = ap (λ (p : Progress). p.batches) is.progress in
     let applied = ap (λ (p : Progress). p.applied) is.progress in
@@ -26,18 +26,18 @@ deliver-ready-progress-requires g c =
     record {
       stable = omega (arith, ap (λ (k : Core). k.table.stable) is.core, t.stable);
       low = omega (arith, ap (λ (k : Core). k.delivered) is.core, c.args.self.now.sound.1);
-      room = omega (arith, issued, few, room, c.accept-vote-issued.auto.outbox);
+      room = omega (arith, issued, few, room, c.accept_vote-issued.auto.outbox);
       begun = (omega (arith, few, issued), omega (arith, batches), omega (arith, applied), omega (arith, passed));
     }
 
-pub invariant-of-self : goal.invariant-of-self
-invariant-of-self g c =
+pub invariant_of-self : goal.invariant_of-self
+invariant_of-self g c =
     let core = c.args.self.now.core in
     let accepts = g.C.SealChecker.accepts c.args.checker.now in
-    let after = c.accept-vote-issued.new.core in
+    let after = c.accept_vote-issued.new.core in
     let t = vote_tame accepts core c.args.outbox.now c.args.vote.now c.in-None.ensures c.args.self.now.sound in (
-      flow_sound g.A.Application.next g.A.Application.marked after (deliver_ready g.A.Application.next g.A.Application.marked 32 after (begin g.A.Application.next g.A.Application.marked after c.args.self.now.app [])) c.deliver-ready-progress.new.core c.deliver-ready-progress.ensures.reached.core
-          (subst (λ (k : Core). Tame k.table) (sym c.accept-vote-issued.ensures.core) t) c.deliver-ready-progress.ensures.low,
+      flow_sound g.A.Application.next g.A.Application.marked after (deliver_ready g.A.Application.next g.A.Application.marked 32 after (begin g.A.Application.next g.A.Application.marked after c.args.self.now.app [])) c.deliver_ready-progress.new.core c.deliver_ready-progress.ensures.reached.core
+          (subst (λ (k : Core). Tame k.table) (sym c.accept_vote-issued.ensures.core) t) c.deliver_ready-progress.ensures.low,
       tt,
     )
 
@@ -52,15 +52,15 @@ returns-in-None g c =
     let accepts = g.C.SealChecker.accepts c.args.checker.now in
     let room = vote_room accepts core box v c.in-None.ensures in
     let few = vote_few core v in
-    let vote = c.accept-vote-issued in
+    let vote = c.accept_vote-issued in
     let issued = ap (λ (p : Progress). p.issued) vote.ensures.progress in
-    let last = c.deliver-ready-progress.new in
-    let p = c.deliver-ready-progress.result in
+    let last = c.deliver_ready-progress.new in
+    let p = c.deliver_ready-progress.result in
     let after = with_table core (vote_table core v) in
     let start = begin next marked after x (vote_issued core v) in
     let was = voted_reached next marked core box (vote_table core v) (vote_issued core v) vote.new.core x vote.new.outbox vote.result vote.ensures in
     let reached = goes_on next marked after box no_progress start vote.new.core x vote.new.outbox vote.result was (omega (arith, room, few, issued))
-    last.core last.app last.outbox p c.deliver-ready-progress.ensures.reached in
+    last.core last.app last.outbox p c.deliver_ready-progress.ensures.reached in
     record {
       agrees = delivered_agrees next marked core after x box (vote_refusal accepts core box v) start
           last.core last.app last.outbox p c.answer.result c.in-None.ensures reached c.answer.ensures;

@@ -5,15 +5,15 @@ use Rattle.dossier.specs.Walk.{numbers}
 use Rattle.dossier.proofs.Steps.{numbers_done, numbers_stop, numbers_more}
 use Rattle.dossier.proofs.target.Target.all_numbers.Goals as goal
 
-pub returns-in-err-found : goal.returns-in-err-found
-returns-in-err-found g c =
+pub returns-in_err-found : goal.returns-in_err-found
+returns-in_err-found g c =
     let p = err_from_is_err_and c.from-residual.result c.from-residual.ensures.1 in
-    numbers_stop (g.C.SealChecker.accepts c.args.self.now.checker.now) c.args.self.now.terms c.args.records.now c.args.stables.now (32 - c.loop-k.k) (c.args.base + 1 + c.loop-k.k) c.loop-k.next (take c.loop-k.k c.loop-k.claims) c.number.result c.from-residual.result (numbers (g.C.SealChecker.accepts c.args.self.now.checker.now) c.args.self.now.terms c.args.records.now c.args.stables.now 32 (c.args.base + 1) c.args.place []) c.in-err-found.field-0.0 p.0 (omega arith) c.number.ensures c.in-err-found.was p.1 p.2 c.loop-k.invariant.1
+    numbers_stop (g.C.SealChecker.accepts c.args.self.now.checker.now) c.args.self.now.terms c.args.records.now c.args.stables.now (32 - c.loop-k.k) (c.args.base + 1 + c.loop-k.k) c.loop-k.next (take c.loop-k.k c.loop-k.claims) c.number.result c.from-residual.result (numbers (g.C.SealChecker.accepts c.args.self.now.checker.now) c.args.self.now.terms c.args.records.now c.args.stables.now 32 (c.args.base + 1) c.args.place []) c.in_err-found.field-0.0 p.0 (omega arith) c.number.ensures c.in_err-found.was p.1 p.2 c.loop-k.invariant.1
 
 pub loop-k-preserved : goal.loop-k-preserved
 loop-k-preserved g c = (
-  length-set c.loop-k.claims c.loop-k.k c.in-ok-found.found.claim ∙ c.loop-k.invariant.0,
-  numbers_more (g.C.SealChecker.accepts c.args.self.now.checker.now) c.args.self.now.terms c.args.records.now c.args.stables.now (c.args.base + 1) c.loop-k.k c.loop-k.next c.in-ok-found.found.next c.loop-k.claims _ c.number.result c.in-ok-found.found (omega arith) c.loop-k.invariant.0 c.number.ensures c.in-ok-found.was refl refl ∙ c.loop-k.invariant.1,
+  length-set c.loop-k.claims c.loop-k.k c.in_ok-found.found.claim ∙ c.loop-k.invariant.0,
+  numbers_more (g.C.SealChecker.accepts c.args.self.now.checker.now) c.args.self.now.terms c.args.records.now c.args.stables.now (c.args.base + 1) c.loop-k.k c.loop-k.next c.in_ok-found.found.next c.loop-k.claims _ c.number.result c.in_ok-found.found (omega arith) c.loop-k.invariant.0 c.number.ensures c.in_ok-found.was refl refl ∙ c.loop-k.invariant.1,
 )
 
 pub returns : goal.returns

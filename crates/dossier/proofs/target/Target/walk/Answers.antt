@@ -4,12 +4,12 @@ use Rattle.dossier.proofs.Steps.{stables_enough}
 use Rattle.dossier.proofs.Sound.{judged}
 use Rattle.dossier.proofs.target.Target.walk.Goals as goal
 
-pub after-stables-requires : goal.after-stables-requires
-after-stables-requires g c =
-    stables_enough (g.C.SealChecker.accepts c.args.self.now.checker.now) c.args.self.now.terms c.args.records.now c.group.result c.in-ok-place.place c.group.ensures c.in-ok-place.was
+pub after_stables-requires : goal.after_stables-requires
+after_stables-requires g c =
+    stables_enough (g.C.SealChecker.accepts c.args.self.now.checker.now) c.args.self.now.terms c.args.records.now c.group.result c.in_ok-place.place c.group.ensures c.in_ok-place.was
 
-pub returns-in-err-place : goal.returns-in-err-place
-returns-in-err-place g c =
+pub returns-in_err-place : goal.returns-in_err-place
+returns-in_err-place g c =
     let e : c.from-residual.result ≡ walked (g.C.SealChecker.accepts c.args.self.now.checker.now) c.args.self.now.terms c.args.records.now = search rules in
     record { exact = e; judged = judged (g.C.SealChecker.accepts c.args.self.now.checker.now) c.args.self.now.terms c.args.records.now c.from-residual.result e }
 

@@ -18,15 +18,15 @@ loop-own-init g c =
 
 pub loop-own-preserved : goal.loop-own-preserved
 loop-own-preserved g c =
-    numbered_more c.loop-own.members.controllers.items c.open-next.new.self.controllers.items c.loop-own.own
+    numbered_more c.loop-own.members.controllers.items c.open_next.new.self.controllers.items c.loop-own.own
     (λ own k. New c.args.n own c.args.digest c.args.start k.core k.digest k.app)
-    c.loop-own.invariant c.in-default-open-next.ensures.1
+    c.loop-own.invariant c.in_default-open_next.ensures.1
 
-pub returns-in-Err-open-next : goal.returns-in-Err-open-next
-returns-in-Err-open-next g c =
+pub returns-in-Err-open_next : goal.returns-in-Err-open_next
+returns-in-Err-open_next g c =
     record {
-      opened = unopened_all c.args.n c.loop-own.own c.in-Err-open-next.fault
-          c.in-default.ensures.0 c.loop-own-test.true c.in-Err-open-next.ensures;
+      opened = unopened_all c.args.n c.loop-own.own c.in-Err-open_next.fault
+          c.in_default.ensures.0 c.loop-own-test.true c.in-Err-open_next.ensures;
       law = proof.one_log_holds (g.D.Digest.value c.args.digest) g.A.Application.next g.A.Application.marked c.args.start;
     }
 
@@ -36,6 +36,6 @@ returns g c =
     let P : ℕ → Type 0 = λ n. Numbered c.loop-own.members.controllers.items n
     (λ own k. New c.args.n own c.args.digest c.args.start k.core k.digest k.app) in
     record {
-      opened = (c.in-default.ensures.0, subst P all c.loop-own.invariant);
+      opened = (c.in_default.ensures.0, subst P all c.loop-own.invariant);
       law = proof.one_log_holds (g.D.Digest.value c.args.digest) g.A.Application.next g.A.Application.marked c.args.start;
     }

@@ -2,7 +2,7 @@ use Rattle.std.proofs.Common.{sym, arith}
 use Rattle.quorum.proofs.Allowed.{sizes}
 use Rattle.quorum.proofs.house.House.new.Goals as goal
 
-pub invariant-of-result : goal.invariant-of-result
-invariant-of-result c =
-    let sized = sym c.if-not-is-allowed.ensures in
+pub invariant_of-result : goal.invariant_of-result
+invariant_of-result c =
+    let sized = sym c.if-not-is_allowed.ensures in
     (sized, ((sizes c.args.n sized).few, (omega arith, tt)))

@@ -6,5 +6,5 @@ use Rattle.table.proofs.records.Ballots.backed.Goals as goal
 
 pub returns : goal.returns
 returns c =
-    c.holds-quorum.ensures.exact
-    ∙ ap (quorum_held vote_signer c.args.n c.args.q) (slice_is (backers c.args.digest.now c.args.self.now) _ c.backers.result c.backers.ensures.few c.backers.ensures.value c.as-slice.ensures)
+    c.holds_quorum.ensures.exact
+    ∙ ap (quorum_held vote_signer c.args.n c.args.q) (slice_is (backers c.args.digest.now c.args.self.now) _ c.backers.result c.backers.ensures.few c.backers.ensures.value c.as_slice.ensures)

@@ -6,7 +6,7 @@ use Rattle.table.proofs.records.Ballots.just_backed.Goals as goal
 
 pub returns : goal.returns
 returns c =
-    flip _ c.is-none.result c.is-none.ensures
+    flip _ c.is_none.result c.is_none.ensures
     ∙ ap (λ o. not (is_some o))
-    (c.first-fault.ensures
-    ∙ ap (list_fault vote_signer (λ _. true) c.args.n c.args.q) (slice_is (backers c.args.digest.now c.args.self.now) _ c.backers.result c.backers.ensures.few c.backers.ensures.value c.as-slice.ensures))
+    (c.first_fault.ensures
+    ∙ ap (list_fault vote_signer (λ _. true) c.args.n c.args.q) (slice_is (backers c.args.digest.now c.args.self.now) _ c.backers.result c.backers.ensures.few c.backers.ensures.value c.as_slice.ensures))

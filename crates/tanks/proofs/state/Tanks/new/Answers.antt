@@ -3,9 +3,9 @@ use Rattle.tanks.specs.Tanks.{new_tanks}
 use Rattle.tanks.proofs.Same.{same_tanks}
 use Rattle.tanks.proofs.state.Tanks.new.Goals as goal
 
-pub invariant-of-result : goal.invariant-of-result
+pub invariant_of-result : goal.invariant_of-result
 unfolding new_tanks
-invariant-of-result c = (new_tanks.long, (new_tanks.level, (new_tanks.warmth, tt)))
+invariant_of-result c = (new_tanks.long, (new_tanks.level, (new_tanks.warmth, tt)))
 
 pub returns : goal.returns
 unfolding new_tanks

@@ -10,6 +10,6 @@ returns c =
     let accounts : List ℕ = flat_map bytes4 c.args.self.now.accounts in
     let plant : List ℕ = bytes4 c.args.self.now.plant in
     let openings : List ℕ = flat_map bytes2 c.args.self.now.openings in
-    let one = c.absorb-accounts-accounts.ensures ∙ ap (λ h. fnv_from h accounts) c.offset-basis.ensures in
-    let two = c.absorb-all-plant.ensures ∙ (ap (fnv_from _) c.to-be-bytes.ensures ∙ ap (λ h. fnv_from h plant) one) in
-    c.absorb-openings.ensures ∙ (ap (λ h. fnv_from h openings) two ∙ folded_three mix 0xcbf29ce484222325 accounts plant openings)
+    let one = c.absorb_accounts-accounts.ensures ∙ ap (λ h. fnv_from h accounts) c.offset_basis.ensures in
+    let two = c.absorb_all-plant.ensures ∙ (ap (fnv_from _) c.to_be_bytes.ensures ∙ ap (λ h. fnv_from h plant) one) in
+    c.absorb_openings.ensures ∙ (ap (λ h. fnv_from h openings) two ∙ folded_three mix 0xcbf29ce484222325 accounts plant openings)

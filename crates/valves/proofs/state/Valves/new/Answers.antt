@@ -3,9 +3,9 @@ use Rattle.valves.specs.Valves.{new_valves}
 use Rattle.valves.proofs.Same.{same_valves}
 use Rattle.valves.proofs.state.Valves.new.Goals as goal
 
-pub invariant-of-result : goal.invariant-of-result
+pub invariant_of-result : goal.invariant_of-result
 unfolding new_valves
-invariant-of-result c = (new_valves.long, (new_valves.whole, (new_valves.within, tt)))
+invariant_of-result c = (new_valves.long, (new_valves.whole, (new_valves.within, tt)))
 
 pub returns : goal.returns
 unfolding new_valves

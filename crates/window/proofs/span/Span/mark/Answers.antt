@@ -8,7 +8,7 @@ pub settle-requires : goal.settle-requires
 settle-requires c =
     let s = c.args.self.now in
     let t = c.args.timestamp in
-    let is = sym c.if-is-free.ensures in
+    let is = sym c.if-is_free.ensures in
     let k : ℕ = t - s.base - 1 in
     let r = free_range s t is in
     let small : k < 64 = omega (arith, r.0, r.1) in

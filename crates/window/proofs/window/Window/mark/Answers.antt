@@ -4,8 +4,8 @@ use Rattle.window.specs.Marked.{marked_fitted, marked_low}
 use Rattle.window.proofs.Same.{same_window}
 use Rattle.window.proofs.window.Window.mark.Goals as goal
 
-pub invariant-of-self : goal.invariant-of-self
-invariant-of-self c =
+pub invariant_of-self : goal.invariant_of-self
+invariant_of-self c =
     let w = c.args.self.now in
     let t = c.args.timestamp in
     let is = sym c.mark.ensures in

@@ -5,5 +5,5 @@ use Rattle.wire.proofs.frame.BatchFrame.body.Goals as goal
 
 pub returns : goal.returns
 returns c =
-    let all = c.as-bytes-all.result.now in
-    take_rest all c.min-from.result ∙ (ap (λ n. drop n all) c.min-from.ensures ∙ (drop_min 4 all ∙ ap (drop 4) c.as-bytes-all.ensures))
+    let all = c.as_bytes-all.result.now in
+    take_rest all c.min-from.result ∙ (ap (λ n. drop n all) c.min-from.ensures ∙ (drop_min 4 all ∙ ap (drop 4) c.as_bytes-all.ensures))
