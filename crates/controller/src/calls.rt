@@ -66,7 +66,7 @@ impl<D: Digest, A: Application> Controller<D, A> {
         requests: &[Request],
         outbox: &mut [Sealed],
     ) -> Result<Answer, Refusal>
-        ensures agrees { Agrees (offered (accepts checker.now) (value self.old.digest) self.old.core self.old.app outbox.old proposal.now requests.now) result self.new.core self.new.app outbox.new }
+        ensures agrees { Agrees (offered (C.accepts checker.now) (D.value self.old.digest) self.old.core self.old.app outbox.old proposal.now requests.now) result self.new.core self.new.app outbox.new }
         ensures digest { self.new.digest ≡ self.old.digest }
     {
         match self
@@ -87,7 +87,7 @@ impl<D: Digest, A: Application> Controller<D, A> {
         vote: &Sealed,
         outbox: &mut [Sealed],
     ) -> Result<Answer, Refusal>
-        ensures agrees { Agrees (voted next marked (accepts checker.now) self.old.core self.old.app outbox.old vote.now) result self.new.core self.new.app outbox.new }
+        ensures agrees { Agrees (voted A.next A.marked (C.accepts checker.now) self.old.core self.old.app outbox.old vote.now) result self.new.core self.new.app outbox.new }
         ensures digest { self.new.digest ≡ self.old.digest }
     {
         match self.core.refuses_vote(checker, vote, outbox) {
@@ -107,7 +107,7 @@ impl<D: Digest, A: Application> Controller<D, A> {
         requests: &[Request],
         outbox: &mut [Sealed],
     ) -> Result<Answer, Refusal>
-        ensures agrees { Agrees (supplied next marked (value self.old.digest) self.old.core self.old.app outbox.old number requests.now) result self.new.core self.new.app outbox.new }
+        ensures agrees { Agrees (supplied A.next A.marked (D.value self.old.digest) self.old.core self.old.app outbox.old number requests.now) result self.new.core self.new.app outbox.new }
         ensures digest { self.new.digest ≡ self.old.digest }
     {
         match self
@@ -137,7 +137,7 @@ impl<D: Digest, A: Application> Controller<D, A> {
         commits: &[Sealed],
         outbox: &mut [Sealed],
     ) -> Result<Answer, Refusal>
-        ensures agrees { Agrees (proved next marked (accepts checker.now) (value self.old.digest) self.old.core self.old.app outbox.old number requests.now commits.now) result self.new.core self.new.app outbox.new }
+        ensures agrees { Agrees (proved A.next A.marked (C.accepts checker.now) (D.value self.old.digest) self.old.core self.old.app outbox.old number requests.now commits.now) result self.new.core self.new.app outbox.new }
         ensures digest { self.new.digest ≡ self.old.digest }
     {
         match self
@@ -175,7 +175,7 @@ impl<D: Digest, A: Application> Controller<D, A> {
         records: &[Sealed],
         outbox: &mut [Sealed],
     ) -> Result<Answer, Refusal>
-        ensures agrees { Agrees (entered (accepts checker.now) self.old.core self.old.app outbox.old new.now records.now) result self.new.core self.new.app outbox.new }
+        ensures agrees { Agrees (entered (C.accepts checker.now) self.old.core self.old.app outbox.old new.now records.now) result self.new.core self.new.app outbox.new }
         ensures digest { self.new.digest ≡ self.old.digest }
     {
         match self.core.judge(checker, new, records, outbox) {

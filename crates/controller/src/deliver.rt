@@ -65,7 +65,7 @@ pub(crate) fn deliver_one<P: Application>(
     requires low { core.old.delivered ≤ 1000000000032 }
     requires room { so_far.issued < length outbox.old }
     requires small { Small so_far }
-    ensures reached { Reached core.old outbox.old so_far (deliver_one next marked (own core.old) (begin next marked core.old app.old []) requests.now) core.new app.new outbox.new result }
+    ensures reached { Reached core.old outbox.old so_far (deliver_one P.next P.marked (own core.old) (begin P.next P.marked core.old app.old []) requests.now) core.new app.new outbox.new result }
     ensures more { More so_far result }
 {
     let tally = deliver(app, &mut core.windows, requests);
@@ -90,7 +90,7 @@ pub(crate) fn deliver_ready<P: Application>(
     requires low { core.old.delivered ≤ 1000000000032 }
     requires room { so_far.issued + 32 ≤ length outbox.old }
     requires begun { Begun so_far }
-    ensures reached { Reached core.old outbox.old so_far (deliver_ready next marked 32 core.old (begin next marked core.old app.old [])) core.new app.new outbox.new result }
+    ensures reached { Reached core.old outbox.old so_far (deliver_ready P.next P.marked 32 core.old (begin P.next P.marked core.old app.old [])) core.new app.new outbox.new result }
     ensures low { core.new.delivered ≤ 1000000000032 }
 {
     let mut progress = so_far;

@@ -40,7 +40,7 @@ impl<D: Digest, A: Application> Controller<D, A> {
 
     // The mark of the application's state.
     pub fn mark(&self) -> u64
-        ensures { result ≡ marked self.now.app }
+        ensures { result ≡ A.marked self.now.app }
     {
         self.app.mark()
     }

@@ -5,8 +5,8 @@ use Rattle.std.proofs.lemmas.List.{places, same_lists, get_or-set_same, get_or-r
 use Rattle.std.proofs.lemmas.Bool.{cases_eq}
 use Rattle.digest.specs.Words.{bytes4, put_over}
 
-pub length-put-over : (xs : List ℕ) (at : ℕ) (ys : List ℕ) → at + length ys ≤ length xs → length (put_over xs at ys) ≡ length xs
-length-put-over xs at ys h = simp (length-append, length-drop, length-take) (omega arith)
+pub length-put_over : (xs : List ℕ) (at : ℕ) (ys : List ℕ) → at + length ys ≤ length xs → length (put_over xs at ys) ≡ length xs
+length-put_over xs at ys h = simp (length-append, length-drop, length-take) (omega arith)
 
 -- xs and the byte b, into a buffer of zeros
 pub begun : (len b : ℕ) (xs : List ℕ) → length xs < len → set (put_over (replicate len 0) 0 xs) (length xs) b ≡ xs ++ b ∷ replicate (len - 1 - length xs) 0

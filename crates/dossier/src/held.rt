@@ -75,7 +75,7 @@ struct Sought {
 impl<C: SealChecker> Target<'_, C> {
     // The tally after the held statement at a place, or None where it is at fault or missing.
     fn held(&self, records: &[Sealed], place: usize, sought: Sought, tally: &Tally) -> Option<Tally>
-        ensures { result ≡ held_one (accepts self.now.checker.now) self.now.terms records.now sought.number sought.signer sought.is_last tally.now place }
+        ensures { result ≡ held_one (C.accepts self.now.checker.now) self.now.terms records.now sought.number sought.signer sought.is_last tally.now place }
     {
         if place >= records.len() {
             return None;
@@ -102,7 +102,7 @@ impl<C: SealChecker> Target<'_, C> {
         s: u64,
         place: usize,
     ) -> Result<Helds, usize>
-        ensures { result ≡ helds (accepts self.now.checker.now) self.now.terms records.now s place stables.now }
+        ensures { result ≡ helds (C.accepts self.now.checker.now) self.now.terms records.now s place stables.now }
     {
         let last = last_place(stables, s);
         let mut tally = Tally {

@@ -35,7 +35,7 @@ impl<C: SealChecker> Target<'_, C> {
         s: u64,
         place: usize,
     ) -> Result<Found, usize>
-        ensures { result ≡ found (accepts self.now.checker.now) self.now.terms records.now stables.now s place }
+        ensures { result ≡ found (C.accepts self.now.checker.now) self.now.terms records.now stables.now s place }
     {
         let helds = self.held_group(records, stables, s, place)?;
         let claim = Claim {
@@ -68,7 +68,7 @@ impl<C: SealChecker> Target<'_, C> {
         place: usize,
     ) -> Result<Span, usize>
         requires { base ≤ 1000000000000 }
-        ensures { result ≡ numbers (accepts self.now.checker.now) self.now.terms records.now stables.now 32 (base + 1) place [] }
+        ensures { result ≡ numbers (C.accepts self.now.checker.now) self.now.terms records.now stables.now 32 (base + 1) place [] }
     {
         let mut claims = [Claim {
             epoch: 0,
@@ -92,7 +92,7 @@ impl<C: SealChecker> Target<'_, C> {
         place: usize,
     ) -> Result<usize, usize>
         requires { mark ≡ mark_at records.now base place }
-        ensures { result ≡ checkpoints (accepts self.now.checker.now) self.now.terms records.now base place }
+        ensures { result ≡ checkpoints (C.accepts self.now.checker.now) self.now.terms records.now base place }
     {
         if base == 0 {
             return Ok(place);
@@ -110,7 +110,7 @@ impl<C: SealChecker> Target<'_, C> {
     // What follows the stable statements, which end at a place.
     fn after_stables(&self, records: &[Sealed], place: usize) -> Result<Opened, usize>
         requires { (self.now.terms.q ≤ length records.now) × (largest (take self.now.terms.q records.now) ≤ 1000000000000) }
-        ensures { result ≡ after_stables (accepts self.now.checker.now) self.now.terms records.now (largest (take self.now.terms.q records.now)) place }
+        ensures { result ≡ after_stables (C.accepts self.now.checker.now) self.now.terms records.now (largest (take self.now.terms.q records.now)) place }
     {
         let stables = &records[0..self.terms.q];
         let base = base_of(stables);
@@ -126,8 +126,8 @@ impl<C: SealChecker> Target<'_, C> {
 
     // What a dossier says, or the index of its first record at fault, missing or surplus.
     pub fn walk(&self, records: &[Sealed]) -> Result<Opened, usize>
-        ensures exact { result ≡ walked (accepts self.now.checker.now) self.now.terms records.now }
-        ensures judged { MatchResult result (Admitted (accepts self.now.checker.now) self.now.terms records.now) (λ i. i ≤ length records.now) }
+        ensures exact { result ≡ walked (C.accepts self.now.checker.now) self.now.terms records.now }
+        ensures judged { MatchResult result (Admitted (C.accepts self.now.checker.now) self.now.terms records.now) (λ i. i ≤ length records.now) }
     {
         let place = group(records, 0, self.terms.n, self.terms.q, self)?;
         self.after_stables(records, place)

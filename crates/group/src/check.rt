@@ -18,7 +18,7 @@ pub fn group<T: Signed, R: Rule<T>>(
     q: usize,
     rule: &R,
 ) -> Result<usize, usize>
-    ensures { result ≡ grouped names (allows rule.now) n q from 0 (drop from list.now) }
+    ensures { result ≡ grouped T.names (R.allows rule.now) n q from 0 (drop from list.now) }
 {
     let mut least: u8 = 0;
     let mut left = q;
@@ -47,7 +47,7 @@ pub fn group<T: Signed, R: Rule<T>>(
 
 // The index of the first record at fault, missing or surplus in a list that is one group.
 pub fn first_fault<T: Signed, R: Rule<T>>(list: &[T], n: u8, q: usize, rule: &R) -> Option<usize>
-    ensures { result ≡ list_fault names (allows rule.now) n q list.now }
+    ensures { result ≡ list_fault T.names (R.allows rule.now) n q list.now }
 {
     match group(list, 0, n, q, rule) {
         Err(i) => Some(i),
@@ -62,8 +62,8 @@ pub fn first_fault<T: Signed, R: Rule<T>>(list: &[T], n: u8, q: usize, rule: &R)
 
 // Whether the first q records of a list are a quorum: q different controllers.
 pub fn holds_quorum<T: Signed>(list: &[T], n: u8, q: usize) -> bool
-    ensures exact { result ≡ quorum_held names n q list.now }
-    ensures counted { result ≡ true → q ≤ count (signed_by names (take q list.now)) n }
+    ensures exact { result ≡ quorum_held T.names n q list.now }
+    ensures counted { result ≡ true → q ≤ count (signed_by T.names (take q list.now)) n }
 {
     match group(list, 0, n, q, &AnyMark) {
         Ok(_) => true,
@@ -80,7 +80,7 @@ pub fn commits_fault<C: SealChecker>(
     number: u64,
     checker: &C,
 ) -> Option<usize>
-    ensures { result ≡ commits_fault (accepts checker.now) n q number list.now }
+    ensures { result ≡ commits_fault (C.accepts checker.now) n q number list.now }
 {
     if list.len() == 0 {
         return Some(0);

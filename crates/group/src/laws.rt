@@ -6,7 +6,7 @@ use crate::signed::Signed;
 
 // What the check of a group shows, of any records and rule.
 pub fn groups_hold<T: Signed, R: Rule<T>>(rule: &R) -> u8
-    ensures { Groups names (allows rule.now) }
+    ensures { Groups T.names (R.allows rule.now) }
 {
     let _ = rule;
     0

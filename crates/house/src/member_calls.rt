@@ -27,7 +27,7 @@ impl<D: Digest, A: Application> Members<D, A> {
         requests: &[Request],
         outbox: &mut [Sealed],
     ) -> Option<Result<Answer, Refusal>>
-        ensures call { Answered self.old.controllers.items self.new.controllers.items outbox.old outbox.new i (λ before answer after. Agrees (offered (accepts checker.now) (value before.digest) before.core before.app outbox.old proposal.now requests.now) answer after.core after.app outbox.new × (after.digest ≡ before.digest)) result }
+        ensures call { Answered self.old.controllers.items self.new.controllers.items outbox.old outbox.new i (λ before answer after. Agrees (offered (C.accepts checker.now) (D.value before.digest) before.core before.app outbox.old proposal.now requests.now) answer after.core after.app outbox.new × (after.digest ≡ before.digest)) result }
         ensures only { Only self.old.controllers.items self.new.controllers.items i }
     {
         match self.controllers.get_mut(i) {
@@ -43,7 +43,7 @@ impl<D: Digest, A: Application> Members<D, A> {
         vote: &Sealed,
         outbox: &mut [Sealed],
     ) -> Option<Result<Answer, Refusal>>
-        ensures call { Answered self.old.controllers.items self.new.controllers.items outbox.old outbox.new i (λ before answer after. Agrees (voted next marked (accepts checker.now) before.core before.app outbox.old vote.now) answer after.core after.app outbox.new × (after.digest ≡ before.digest)) result }
+        ensures call { Answered self.old.controllers.items self.new.controllers.items outbox.old outbox.new i (λ before answer after. Agrees (voted A.next A.marked (C.accepts checker.now) before.core before.app outbox.old vote.now) answer after.core after.app outbox.new × (after.digest ≡ before.digest)) result }
         ensures only { Only self.old.controllers.items self.new.controllers.items i }
     {
         match self.controllers.get_mut(i) {
@@ -59,7 +59,7 @@ impl<D: Digest, A: Application> Members<D, A> {
         requests: &[Request],
         outbox: &mut [Sealed],
     ) -> Option<Result<Answer, Refusal>>
-        ensures call { Answered self.old.controllers.items self.new.controllers.items outbox.old outbox.new i (λ before answer after. Agrees (supplied next marked (value before.digest) before.core before.app outbox.old number requests.now) answer after.core after.app outbox.new × (after.digest ≡ before.digest)) result }
+        ensures call { Answered self.old.controllers.items self.new.controllers.items outbox.old outbox.new i (λ before answer after. Agrees (supplied A.next A.marked (D.value before.digest) before.core before.app outbox.old number requests.now) answer after.core after.app outbox.new × (after.digest ≡ before.digest)) result }
         ensures only { Only self.old.controllers.items self.new.controllers.items i }
     {
         match self.controllers.get_mut(i) {
@@ -77,7 +77,7 @@ impl<D: Digest, A: Application> Members<D, A> {
         commits: &[Sealed],
         outbox: &mut [Sealed],
     ) -> Option<Result<Answer, Refusal>>
-        ensures call { Answered self.old.controllers.items self.new.controllers.items outbox.old outbox.new i (λ before answer after. Agrees (proved next marked (accepts checker.now) (value before.digest) before.core before.app outbox.old number requests.now commits.now) answer after.core after.app outbox.new × (after.digest ≡ before.digest)) result }
+        ensures call { Answered self.old.controllers.items self.new.controllers.items outbox.old outbox.new i (λ before answer after. Agrees (proved A.next A.marked (C.accepts checker.now) (D.value before.digest) before.core before.app outbox.old number requests.now commits.now) answer after.core after.app outbox.new × (after.digest ≡ before.digest)) result }
         ensures only { Only self.old.controllers.items self.new.controllers.items i }
     {
         match self.controllers.get_mut(i) {
@@ -104,7 +104,7 @@ impl<D: Digest, A: Application> Members<D, A> {
         records: &[Sealed],
         outbox: &mut [Sealed],
     ) -> Option<Result<Answer, Refusal>>
-        ensures call { Answered self.old.controllers.items self.new.controllers.items outbox.old outbox.new i (λ before answer after. Agrees (entered (accepts checker.now) before.core before.app outbox.old new.now records.now) answer after.core after.app outbox.new × (after.digest ≡ before.digest)) result }
+        ensures call { Answered self.old.controllers.items self.new.controllers.items outbox.old outbox.new i (λ before answer after. Agrees (entered (C.accepts checker.now) before.core before.app outbox.old new.now records.now) answer after.core after.app outbox.new × (after.digest ≡ before.digest)) result }
         ensures only { Only self.old.controllers.items self.new.controllers.items i }
     {
         match self.controllers.get_mut(i) {

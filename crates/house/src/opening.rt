@@ -44,7 +44,7 @@ impl<D: Digest + Copy, A: Application + Copy> Members<D, A> {
     // So they keep one log.
     pub fn open(heap: Global, n: u8, digest: D, start: A) -> Result<Members<D, A>, OpenFault>
         ensures opened { MatchResult result (λ m. (no_house n 0 ≡ false) × Numbered m.controllers.items n (λ own k. New n own digest start k.core k.digest k.app)) (λ e. Unopened n 0 e) }
-        ensures law { OneLogHolds (value digest) next marked start }
+        ensures law { OneLogHolds (D.value digest) A.next A.marked start }
     {
         if let Err(_) = House::new(n, 0) {
             return Err(OpenFault::Refused(Refusal::House));

@@ -64,9 +64,9 @@ fn why_passed(windows: &Windows, client: u8, timestamp: u32) -> Passed
 
 impl<P: Application> Noted<P> {
     pub(crate) fn serve(&mut self, windows: &mut Windows, request: Request) -> Outcome
-        ensures value { result ≡ outcome_of (code self.old.app request.client request.timestamp request.payload) windows.old request }
-        ensures app { self.new.app ≡ (delivered next self.old.app windows.old (request ∷ [])).app }
-        ensures windows { windows.new ≡ (delivered next self.old.app windows.old (request ∷ [])).windows }
+        ensures value { result ≡ outcome_of (P.code self.old.app request.client request.timestamp request.payload) windows.old request }
+        ensures app { self.new.app ≡ (delivered P.next self.old.app windows.old (request ∷ [])).app }
+        ensures windows { windows.new ≡ (delivered P.next self.old.app windows.old (request ∷ [])).windows }
     {
         let why = why_passed(windows, request.client, request.timestamp);
         self.answer = None;

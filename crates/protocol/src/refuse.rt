@@ -129,7 +129,7 @@ impl Core {
         requests: &[Request],
         outbox: &[Sealed],
     ) -> Option<Refusal>
-        ensures { result ≡ offer_refusal (accepts checker.now) (value digest.now) self.now outbox.now proposal.now requests.now }
+        ensures { result ≡ offer_refusal (C.accepts checker.now) (D.value digest.now) self.now outbox.now proposal.now requests.now }
     {
         let st = proposal.statement;
         if outbox.len() < ROOM {
@@ -226,7 +226,7 @@ impl Core {
         vote: &Sealed,
         outbox: &[Sealed],
     ) -> Option<Refusal>
-        ensures { result ≡ vote_refusal (accepts checker.now) self.now outbox.now vote.now }
+        ensures { result ≡ vote_refusal (C.accepts checker.now) self.now outbox.now vote.now }
     {
         let st = vote.statement;
         if outbox.len() < ROOM {
@@ -263,7 +263,7 @@ impl Core {
         requests: &[Request],
         outbox: &[Sealed],
     ) -> Option<Refusal>
-        ensures { result ≡ supply_refusal (value digest.now) self.now outbox.now s requests.now }
+        ensures { result ≡ supply_refusal (D.value digest.now) self.now outbox.now s requests.now }
     {
         if outbox.len() < ROOM {
             return Some(Refusal::Room);
@@ -292,7 +292,7 @@ impl Core {
         commits: &[Sealed],
         outbox: &[Sealed],
     ) -> Option<Refusal>
-        ensures { result ≡ prove_refusal (accepts checker.now) (value digest.now) self.now outbox.now s requests.now commits.now }
+        ensures { result ≡ prove_refusal (C.accepts checker.now) (D.value digest.now) self.now outbox.now s requests.now commits.now }
     {
         if outbox.len() < ROOM {
             return Some(Refusal::Room);
@@ -317,7 +317,7 @@ impl Core {
         new: &Sealed,
         outbox: &[Sealed],
     ) -> Option<Refusal>
-        ensures { result ≡ new_refusal (accepts checker.now) self.now outbox.now new.now }
+        ensures { result ≡ new_refusal (C.accepts checker.now) self.now outbox.now new.now }
     {
         let st = new.statement;
         if outbox.len() < ROOM {
@@ -349,7 +349,7 @@ impl Core {
         records: &[Sealed],
         outbox: &[Sealed],
     ) -> Result<Opened, Refusal>
-        ensures { Judged (accepts checker.now) self.now outbox.now new.now records.now result }
+        ensures { Judged (C.accepts checker.now) self.now outbox.now new.now records.now result }
     {
         match self.refuses_new(checker, new, outbox) {
             Some(refusal) => return Err(refusal),

@@ -11,7 +11,7 @@ use wire::records::{Batch, DigestValue, Request};
 
 // Whether requests are not the batch of a digest, or no batch.
 pub(crate) fn is_no_batch<D: Digest>(digest: &D, wanted: &DigestValue, requests: &[Request]) -> bool
-    ensures { result ≡ no_batch_of (value digest.now) wanted.now requests.now }
+    ensures { result ≡ no_batch_of (D.value digest.now) wanted.now requests.now }
 {
     match batch_digest(digest, requests) {
         Ok(d) => {
@@ -83,7 +83,7 @@ impl Core {
         earlier: &[Request],
         q: &Request,
     ) -> bool
-        ensures { result ≡ bad_request (accepts checker.now) (value digest.now) self.now s earlier.now q.now }
+        ensures { result ≡ bad_request (C.accepts checker.now) (D.value digest.now) self.now s earlier.now q.now }
     {
         if !self.windows.admits(q.client, q.timestamp) {
             return true;
@@ -111,7 +111,7 @@ impl Core {
         s: u64,
         requests: &[Request],
     ) -> Option<usize>
-        ensures { result ≡ first_bad (accepts checker.now) (value digest.now) self.now s requests.now 0 requests.now }
+        ensures { result ≡ first_bad (C.accepts checker.now) (D.value digest.now) self.now s requests.now 0 requests.now }
     {
         for i in 0..requests.len() {
             if self.is_bad(checker, digest, s, &requests[0..i], &requests[i]) {

@@ -17,7 +17,7 @@ pub struct Tally {
 // Applies and marks one request, or passes it over and says so by false.
 fn take<P: Application>(app: &mut P, windows: &mut Windows, q: Request) -> bool
     ensures value { result ≡ admits windows.old q.client q.timestamp }
-    ensures app { app.new ≡ (if result then next app.old q.client q.timestamp q.payload else app.old) }
+    ensures app { app.new ≡ (if result then P.next app.old q.client q.timestamp q.payload else app.old) }
     ensures windows { windows.new ≡ (if result then marks windows.old q.client q.timestamp else windows.old) }
 {
     if !windows.admits(q.client, q.timestamp) {
@@ -30,7 +30,7 @@ fn take<P: Application>(app: &mut P, windows: &mut Windows, q: Request) -> bool
 
 // Each request is judged by the windows as the one before it left them.
 pub fn deliver<P: Application>(app: &mut P, windows: &mut Windows, requests: &[Request]) -> Tally
-    ensures { record { app = app.exit.now; windows = windows.new; applied = result.applied; passed = result.passed } ≡ delivered next app.entry.now windows.old requests.now }
+    ensures { record { app = app.new; windows = windows.new; applied = result.applied; passed = result.passed } ≡ delivered P.next app.old windows.old requests.now }
 {
     let mut applied = 0;
     let mut passed = 0;

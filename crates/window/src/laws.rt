@@ -39,8 +39,8 @@ pub fn served_hold() -> u8
 
 // Of deliveries to any application: the served requests make the state, and batches may be joined.
 pub fn deliveries_hold<P: Application>(_app: &P) -> u8
-    ensures delivers { Delivers next }
-    ensures joins { DeliveryJoins next }
+    ensures delivers { Delivers P.next }
+    ensures joins { DeliveryJoins P.next }
 {
     0
 }

@@ -5,4 +5,4 @@ use Rattle.quorum.proofs.house.House.new.Goals as goal
 pub invariant_of-result : goal.invariant_of-result
 invariant_of-result c =
     let sized = sym c.if-not-is_allowed.ensures in
-    (sized, ((sizes c.args.n sized).few, (omega arith, tt)))
+    record { sized = sized; few = (sizes c.args.n sized).few; placed = omega arith }

@@ -10,7 +10,7 @@ pub invariant_of-self : goal.invariant_of-self
 invariant_of-self c =
     let was = c.carry_out.ensures.after ∙ ap (carried_out c.args.self.now.farm c.args.client) c.order_of.ensures in
     let h = subst Sound (sym was) (keeps c.args.self.now.farm c.args.client (order_of c.args.payload) (sound c.args.self.now)) in
-    (h.long, (h.level, (h.warmth, tt)))
+    record { long = h.long; level = h.level; warmth = h.warmth }
 
 pub returns : goal.returns
 unfolding after answer

@@ -5,7 +5,7 @@ use Rattle.tanks.proofs.state.Tanks.new.Goals as goal
 
 pub invariant_of-result : goal.invariant_of-result
 unfolding new_tanks
-invariant_of-result c = (new_tanks.long, (new_tanks.level, (new_tanks.warmth, tt)))
+invariant_of-result c = record { long = new_tanks.long; level = new_tanks.level; warmth = new_tanks.warmth }
 
 pub returns : goal.returns
 unfolding new_tanks

@@ -5,7 +5,7 @@ use Rattle.valves.proofs.state.Valves.new.Goals as goal
 
 pub invariant_of-result : goal.invariant_of-result
 unfolding new_valves
-invariant_of-result c = (new_valves.long, (new_valves.whole, (new_valves.within, tt)))
+invariant_of-result c = record { long = new_valves.long; whole = new_valves.whole; within = new_valves.within }
 
 pub returns : goal.returns
 unfolding new_valves

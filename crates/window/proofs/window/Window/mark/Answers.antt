@@ -9,7 +9,7 @@ invariant_of-self c =
     let w = c.args.self.now in
     let t = c.args.timestamp in
     let is = sym c.mark.ensures in
-    (subst Low is (marked_low w.span t w.fits w.low), (subst Fitted is (marked_fitted w.span t w.fits), tt))
+    record { low = subst Low is (marked_low w.span t w.fits w.low); fits = subst Fitted is (marked_fitted w.span t w.fits) }
 
 pub returns : goal.returns
 returns c = same_window _ _ c.mark.ensures
