@@ -10,7 +10,7 @@ import sys
 WORD = re.compile(r"(?<![\w'◌])[A-Za-z][\w']*(?:-[\w']+)+(?![\w'◌])")
 SOURCE = re.compile(r"\b[a-z][a-z0-9]*(?:_[a-z0-9]+)+\b|\b[A-Z][A-Z0-9]*(?:_[A-Z0-9]+)+\b")
 FIXED = {"in_default", "in_ok", "in_err", "invariant_of", "slice_bounds", "offset_bounds", "overflow_add", "overflow_sub", "overflow_mul", "overflow_shl", "overflow_shr", "overflow_cast",
-         "overflow_step", "nonzero_div", "nonzero_rem", "as_bytes", "as_slice", "as_str", "is_empty", "is_some", "is_none", "get_mut", "split_at", "from_slice", "iter_mut", "to_vec", "copy_from_slice",
+         "overflow_step", "nonzero_div", "nonzero_rem", "as_bytes", "as_slice", "as_str", "is_empty", "is_some", "is_none", "get_mut", "split_at", "from_slice", "from_residual", "iter_mut", "to_vec", "copy_from_slice",
          "push_str", "is_digit", "try_from", "wrapping_add", "wrapping_mul", "rotate_left", "rotate_right", "to_be_bytes", "from_be_bytes", "range_from", "type_inv", "map_err", "read_line", "write_all", "read_to_end"}
 
 

@@ -7,8 +7,8 @@ use Rattle.dossier.proofs.target.Target.all_numbers.Goals as goal
 
 pub returns-in_err-found : goal.returns-in_err-found
 returns-in_err-found g c =
-    let p = err_from_is_err_and c.from-residual.result c.from-residual.ensures.1 in
-    numbers_stop (g.C.SealChecker.accepts c.args.self.now.checker.now) c.args.self.now.terms c.args.records.now c.args.stables.now (32 - c.loop-k.k) (c.args.base + 1 + c.loop-k.k) c.loop-k.next (take c.loop-k.k c.loop-k.claims) c.number.result c.from-residual.result (numbers (g.C.SealChecker.accepts c.args.self.now.checker.now) c.args.self.now.terms c.args.records.now c.args.stables.now 32 (c.args.base + 1) c.args.place []) c.in_err-found.field-0.0 p.0 (omega arith) c.number.ensures c.in_err-found.was p.1 p.2 c.loop-k.invariant.1
+    let p = err_from_is_err_and c.from_residual.result c.from_residual.ensures.1 in
+    numbers_stop (g.C.SealChecker.accepts c.args.self.now.checker.now) c.args.self.now.terms c.args.records.now c.args.stables.now (32 - c.loop-k.k) (c.args.base + 1 + c.loop-k.k) c.loop-k.next (take c.loop-k.k c.loop-k.claims) c.number.result c.from_residual.result (numbers (g.C.SealChecker.accepts c.args.self.now.checker.now) c.args.self.now.terms c.args.records.now c.args.stables.now 32 (c.args.base + 1) c.args.place []) c.in_err-found.field-0.0 p.0 (omega arith) c.number.ensures c.in_err-found.was p.1 p.2 c.loop-k.invariant.1
 
 pub loop-k-preserved : goal.loop-k-preserved
 loop-k-preserved g c = (

@@ -10,8 +10,8 @@ after_stables-requires g c =
 
 pub returns-in_err-place : goal.returns-in_err-place
 returns-in_err-place g c =
-    let e : c.from-residual.result ≡ walked (g.C.SealChecker.accepts c.args.self.now.checker.now) c.args.self.now.terms c.args.records.now = search rules in
-    record { exact = e; judged = judged (g.C.SealChecker.accepts c.args.self.now.checker.now) c.args.self.now.terms c.args.records.now c.from-residual.result e }
+    let e : c.from_residual.result ≡ walked (g.C.SealChecker.accepts c.args.self.now.checker.now) c.args.self.now.terms c.args.records.now = search rules in
+    record { exact = e; judged = judged (g.C.SealChecker.accepts c.args.self.now.checker.now) c.args.self.now.terms c.args.records.now c.from_residual.result e }
 
 pub returns : goal.returns
 returns g c =
