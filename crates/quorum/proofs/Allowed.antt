@@ -1,7 +1,7 @@
 -- What holds of every allowed size. Only this file and the proofs of House open the formulas.
 use Rattle.std.proofs.Common.{◌≡◌, ℕ, true, ◌⊎◌, refl, arith}
 use Rattle.std.proofs.lemmas.Bool.Decides.{nat_tests}
-use Rattle.quorum.specs.Sizes.{allowed, faults, quorum, Sizes, SizesHold}
+use Rattle.quorum.specs.Sizes.{allowed, faults, quorum, SizesHold}
 use Rattle.quorum.specs.Cases.{Cases}
 
 one_of : (n : ℕ) → allowed n ≡ true → (n ≡ 4) ⊎ ((n ≡ 7) ⊎ ((n ≡ 10) ⊎ ((n ≡ 13) ⊎ (n ≡ 16))))

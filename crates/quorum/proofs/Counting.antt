@@ -1,10 +1,10 @@
 -- Counting: two large sets overlap, and a list of ascending signers is a set of as many controllers.
-use Rattle.std.proofs.Common.{◌≡◌, ℕ, zero, suc, ◌+◌, ◌-◌, ◌*◌, ◌<◌, ◌≤◌, Bool, true, false, not, ◌&&◌, ◌||◌, eqb, ◌⊎◌, List, [], ◌∷◌, length, sym, refl, ap, ◌∙◌, subst, inl, inr, arith}
+use Rattle.std.proofs.Common.{◌≡◌, ℕ, zero, suc, ◌+◌, ◌<◌, ◌≤◌, Bool, true, false, not, ◌&&◌, ◌||◌, eqb, ◌⊎◌, List, [], ◌∷◌, length, refl, ap, subst, inl, inr, arith}
 use Rattle.std.proofs.lemmas.Bool.{and_parts, or_cases, or_from, not-true, eq-eqb, ne_eqb, eqb-true, cases_eq, false≢true}
 use Rattle.std.specs.List.{AllByRecursion as All}
 use Rattle.quorum.specs.Sizes.{allowed, faults, quorum}
 use Rattle.quorum.specs.Sets.{one, count, Quorum, Trusty, Shared, Ascends, signed_by}
-use Rattle.quorum.specs.Laws.{QuorumsOverlap, QuorumsMeet, QuorumHonest, SignersCount, Witness}
+use Rattle.quorum.specs.Laws.{QuorumsOverlap, QuorumsMeet, QuorumHonest, SignersCount}
 use Rattle.quorum.proofs.Allowed.{sizes}
 
 -- two sets

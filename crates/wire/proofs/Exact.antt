@@ -1,5 +1,5 @@
 -- Bytes that read as a record are its writing.
-use Rattle.std.proofs.Common.{◌≡◌, ℕ, zero, suc, ◌+◌, ◌-◌, ◌*◌, ◌/◌, ◌%◌, ◌<◌, ◌≤◌, min, Bool, true, false, cond, not, ◌||◌, eqb, ltb, List, [], ◌∷◌, ◌++◌, length, get_or, take, drop, replicate, Ok, Err, Result, sym, refl, ap, ◌∙◌, subst, append_assoc, arith}
+use Rattle.std.proofs.Common.{◌≡◌, ℕ, zero, suc, ◌+◌, ◌-◌, ◌*◌, ◌/◌, ◌%◌, ◌<◌, ◌≤◌, min, Bool, true, false, cond, not, eqb, ltb, List, [], ◌∷◌, ◌++◌, length, get_or, drop, replicate, Ok, Result, sym, refl, ap, ◌∙◌, subst, append_assoc, arith}
 use Rattle.std.specs.List.{flat_map}
 use Rattle.std.proofs.lemmas.List.{get_or-drop, drop-drop, length-drop, take_at}
 use Rattle.std.proofs.lemmas.Bool.{ltb-false, eqb-true, not-false}
@@ -8,9 +8,9 @@ use Rattle.wire.specs.declared.records.Request.{Request}
 use Rattle.wire.specs.declared.records.Batch.{Batch}
 use Rattle.wire.specs.declared.faults.FrameFault.{FrameFault}
 use Rattle.wire.specs.Bytes.{Bytes}
-use Rattle.wire.specs.Frames.{sealed_at, sealed_after, sealed_frame, requests_in, stored, requests_of, no_request, batch_rest, batch_after, batch_head, batch_frame, request_bytes, request_at, fault, unknown_kind}
+use Rattle.wire.specs.Frames.{sealed_at, sealed_frame, requests_in, stored, requests_of, no_request, batch_head, batch_frame, request_bytes, request_at, fault, unknown_kind}
 use Rattle.wire.specs.Laws.{SealedIsFrame, BatchIsFrame}
-use Rattle.wire.proofs.Numbers.{listed, first_listed, four_bytes, eight_bytes}
+use Rattle.wire.proofs.Numbers.{first_listed, four_bytes, eight_bytes}
 use Rattle.wire.proofs.Places.{length-requests}
 
 -- a fault is no record

@@ -1,12 +1,11 @@
 -- What is written reads back as it was.
-use Rattle.std.proofs.Common.{◌≡◌, ℕ, suc, ◌+◌, ◌*◌, ◌/◌, ◌%◌, ◌<◌, ◌≤◌, Bool, false, not, eqb, ltb, List, [], ◌∷◌, ◌++◌, length, get_or, drop, Ok, sym, refl, ap, ◌∙◌, arith}
+use Rattle.std.proofs.Common.{◌≡◌, ℕ, suc, ◌+◌, ◌*◌, ◌/◌, ◌%◌, ◌≤◌, false, not, eqb, ltb, List, [], ◌∷◌, ◌++◌, length, get_or, drop, Ok, refl, ap, ◌∙◌, arith}
 use Rattle.std.specs.List.{flat_map}
 use Rattle.std.proofs.lemmas.List.{drop_at, length-append}
 use Rattle.std.proofs.lemmas.Bool.{cond-false, or_from, ne_eqb, eq-eqb, le-ltb}
-use Rattle.wire.specs.declared.records.Sealed.{Sealed}
 use Rattle.wire.specs.declared.records.Request.{Request}
 use Rattle.wire.specs.Frames.{unknown_kind, sealed_frame, sealed_at, sealed_after, requests_in, stored, batch_rest, request_bytes, no_request}
-use Rattle.wire.specs.Laws.{Fitted, Fitting, SealedReadsBack, BatchReadsBack}
+use Rattle.wire.specs.Laws.{Fitting, SealedReadsBack, BatchReadsBack}
 use Rattle.wire.proofs.Numbers.{four_back, eight_back}
 use Rattle.wire.proofs.Puts.{length-joined}
 

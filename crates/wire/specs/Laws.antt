@@ -1,10 +1,8 @@
 -- Each record has one frame: what is written reads back as it was, and bytes that read as a record are its writing.
-use Rattle.std.specs.Prelude.{◌≡◌, ℕ, ◌<◌, ◌≤◌, List, ◌++◌, length, Ok, Result, slice_index_or}
-use Rattle.wire.specs.declared.records.Statement.{Statement}
+use Rattle.std.specs.Prelude.{◌≡◌, ℕ, ◌<◌, ◌≤◌, List, ◌++◌, length, Ok, slice_index_or}
 use Rattle.wire.specs.declared.records.Sealed.{Sealed}
 use Rattle.wire.specs.declared.records.Request.{Request}
 use Rattle.wire.specs.declared.records.Batch.{Batch}
-use Rattle.wire.specs.declared.faults.FrameFault.{FrameFault}
 use Rattle.wire.specs.Bytes.{Bytes}
 use Rattle.wire.specs.Frames.{sealed_frame, take_sealed, batch_frame, take_batch, stored, requests_of, no_request}
 

@@ -1,4 +1,4 @@
-use Rattle.std.proofs.Common.{◌≡◌, ℕ, ◌+◌, List, [], ◌∷◌, ◌++◌, sym, refl, ap, ◌∙◌, add-one}
+use Rattle.std.proofs.Common.{◌≡◌, ℕ, ◌+◌, List, [], ◌∷◌, ◌++◌, sym, ap, ◌∙◌, add-one}
 use Rattle.std.proofs.lemmas.Slice.{pushed}
 use Rattle.text.specs.Hex.{bytes_of, byte_at}
 use Rattle.text.proofs.hex.bytes_of.Goals as goal

@@ -1,8 +1,7 @@
-use Rattle.std.proofs.Common.{◌≡◌, ◌-◌, ◌*◌, ◌++◌, length, replicate, sym, refl, ap, ◌∙◌, arith}
+use Rattle.std.proofs.Common.{◌*◌, refl, arith}
 use Rattle.std.proofs.lemmas.List.{take_rest}
-use Rattle.wire.specs.declared.records.Batch.{Batch}
-use Rattle.wire.specs.Frames.{requests_in, no_request}
-use Rattle.wire.proofs.Places.{length-requests, placed, all_placed}
+use Rattle.wire.specs.Frames.{requests_in}
+use Rattle.wire.proofs.Places.{placed, all_placed}
 use Rattle.wire.proofs.reading.requests_in.Goals as goal
 
 pub loop-i-init : goal.loop-i-init

@@ -1,4 +1,4 @@
-use Rattle.std.proofs.Common.{◌≡◌, ◌+◌, ◌*◌, length, refl, ap, arith}
+use Rattle.std.proofs.Common.{◌+◌, ◌*◌, length, arith}
 use Rattle.wire.proofs.Puts.{batch_written, batch_given}
 use Rattle.wire.proofs.writing.write_batch.Goals as goal
 

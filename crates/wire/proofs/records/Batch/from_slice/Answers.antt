@@ -1,4 +1,3 @@
-use Rattle.std.proofs.Common.{arith}
 use Rattle.wire.proofs.Puts.{batch_stored}
 use Rattle.wire.proofs.records.Batch.from_slice.Goals as goal
 
