@@ -1,6 +1,5 @@
 -- The account of the lines: how many, frames by kind, faults, lines that were no hexadecimal. Counts stay at their largest.
-use Rattle.std.specs.Prelude.{ℕ, ◌+◌, min, cond, nat_lt, slice_index, slice_set}
-use Rattle.wire.specs.declared.records.Sealed.{Sealed}
+use Rattle.std.specs.Prelude.{ℕ, ◌+◌, cond, nat_lt, slice_index, slice_set}
 use Rattle.inspect.specs.declared.account.Account.{Account}
 use Rattle.inspect.specs.declared.frame.Frame.{Frame}
 use Rattle.inspect.specs.declared.frame.Frame.TheVariants.{Statement, Requests, Fault}

@@ -1,6 +1,5 @@
 -- What a line says, by its parts.
 use Rattle.std.specs.Prelude.{ℕ, Some, None, Ok, Err, Option, Result}
-use Rattle.wire.specs.declared.records.Request.{Request}
 use Rattle.orders.specs.declared.line.Wrong.{Wrong}
 use Rattle.orders.specs.declared.line.Wrong.TheVariants.{Client, Timestamp}
 use Rattle.orders.specs.declared.line.Line.{Line}

@@ -1,5 +1,5 @@
 -- The tests of sameness say that two values are equal.
-use Rattle.std.proofs.Common.{◌≡◌, ℕ, true, ◌&&◌, eqb, refl, subst}
+use Rattle.std.proofs.Common.{◌≡◌, ℕ, true, eqb, refl, subst}
 use Rattle.std.proofs.lemmas.Bool.{and_parts, and_from, eqb-true, eq-eqb}
 use Rattle.wire.specs.declared.records.DigestValue.{DigestValue}
 use Rattle.wire.specs.declared.records.Statement.{Statement}

@@ -1,11 +1,10 @@
 -- What happens to the place of one number.
-use Rattle.std.specs.Prelude.{ℕ, ◌+◌, Bool, true, false, cond, List, [], ◌∷◌, Some, None, Option, slice_index_or}
+use Rattle.std.specs.Prelude.{ℕ, ◌+◌, Bool, false, cond, List, [], ◌∷◌, Some, None, Option, slice_index_or}
 use Rattle.wire.specs.declared.records.DigestValue.{DigestValue}
 use Rattle.wire.specs.declared.records.Batch.{Batch}
 use Rattle.wire.specs.Values.{same_digest, value_of}
 use Rattle.wire.specs.Frames.{stored}
 use Rattle.table.specs.declared.records.Ballot.{Ballot}
-use Rattle.table.specs.declared.records.Certificate.{Certificate}
 use Rattle.table.specs.declared.records.Place.{Place}
 use Rattle.table.specs.Ballots.{no_ballots, with_ballot, backers, listed}
 

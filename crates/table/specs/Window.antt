@@ -1,5 +1,5 @@
 -- The table: the places of the 32 numbers after the stable number, and how it moves on.
-use Rattle.std.specs.Prelude.{ℕ, ◌+◌, ◌-◌, ◌/◌, min, Bool, true, false, cond, ◌&&◌, List, [], ◌∷◌, ◌++◌, drop, replicate, Some, None, Option, nat_le, nat_lt, slice_index_or, slice_set}
+use Rattle.std.specs.Prelude.{ℕ, ◌+◌, ◌-◌, ◌/◌, min, Bool, cond, ◌&&◌, List, [], ◌++◌, drop, replicate, Option, nat_le, nat_lt, slice_index_or, slice_set}
 use Rattle.wire.specs.declared.records.DigestValue.{DigestValue}
 use Rattle.wire.specs.declared.records.Batch.{Batch}
 use Rattle.table.specs.declared.records.Ballot.{Ballot}
@@ -7,7 +7,7 @@ use Rattle.table.specs.declared.records.Ballots.{Ballots}
 use Rattle.table.specs.declared.records.Votes.{Votes}
 use Rattle.table.specs.declared.records.Place.{Place}
 use Rattle.table.specs.declared.records.Table.{Table}
-use Rattle.table.specs.Ballots.{no_ballots, has_ballot, with_ballot, no_votes}
+use Rattle.table.specs.Ballots.{no_ballots, with_ballot, no_votes}
 use Rattle.table.specs.Places.{empty_place, past, filled, supplied, prepared, committed, certified, all_entered}
 
 unfoldable pub new_table : Table

@@ -1,5 +1,5 @@
 -- An order can be read from its payload.
-use Rattle.std.proofs.Common.{◌≡◌, ℕ, ◌/◌, ◌%◌, ◌^◌, ◌<◌, Some, ap, ◌∙◌, arith, lit<}
+use Rattle.std.proofs.Common.{◌≡◌, ℕ, ◌/◌, ◌%◌, ◌^◌, ◌<◌, Some, ap, ◌∙◌, lit<}
 use Rattle.application.proofs.Words.{bytes_back, four_back, byte}
 use Rattle.tanks.specs.declared.order.TankOrder.TheVariants.{Move}
 use Rattle.tanks.specs.Orders.{read_order, order_of, payload_of}

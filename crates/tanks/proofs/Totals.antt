@@ -1,8 +1,7 @@
 -- What a move takes from one tank it adds to the other.
-use Rattle.std.proofs.Common.{◌≡◌, ℕ, ◌+◌, ◌-◌, ◌<◌, ◌≤◌, Bool, true, false, cond, ◌||◌, eqb, ltb, List, length, get_or, set, Some, sum_by, sym, refl, ap, arith, length-set, get_or-set_other}
+use Rattle.std.proofs.Common.{◌≡◌, ℕ, ◌+◌, ◌-◌, ◌<◌, ◌≤◌, Bool, true, false, cond, ◌||◌, eqb, ltb, length, Some, sym, refl, ap, arith, length-set, get_or-set_other}
 use Rattle.std.proofs.lemmas.List.Sums.{sum_by-set}
 use Rattle.std.proofs.lemmas.Bool.{cond_both, eqb-true, eqb-false, ltb-false, or_parts}
-use Rattle.tanks.specs.declared.tank.Tank.{Tank}
 use Rattle.tanks.specs.declared.farm.Farm.{Farm}
 use Rattle.tanks.specs.declared.order.TankOrder.TheVariants.{Move}
 use Rattle.tanks.specs.Farm.{no_tank, tank_in, with_litres, code_of_move, moved, carried_out}

@@ -1,5 +1,5 @@
 -- What an order does to the tanks: a code, and the tanks after it.
-use Rattle.std.specs.Prelude.{ℕ, ◌+◌, ◌-◌, Bool, cond, ◌||◌, set, ℤ, pos, negsuc, Some, None, Option, ◌==◌, int_lt, nat_lt, slice_index_or, slice_set}
+use Rattle.std.specs.Prelude.{ℕ, ◌+◌, ◌-◌, Bool, cond, ◌||◌, ℤ, pos, negsuc, Some, None, Option, ◌==◌, int_lt, nat_lt, slice_index_or, slice_set}
 use Rattle.application.specs.Codes.{done, unknown, bad_place, bad_value, bad_amount}
 use Rattle.tanks.specs.declared.tank.Tank.{Tank}
 use Rattle.tanks.specs.declared.farm.Farm.{Farm}

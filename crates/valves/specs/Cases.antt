@@ -1,5 +1,5 @@
 -- Client 2 opens valve 7 to 250, and then to 100: it pays 250 and 150 to the plant.
-use Rattle.std.specs.Prelude.{◌≡◌, ℕ, Some}
+use Rattle.std.specs.Prelude.{◌≡◌, Some}
 use Rattle.application.specs.Codes.{done}
 use Rattle.valves.specs.declared.order.ValveOrder.TheVariants.{Open}
 use Rattle.valves.specs.declared.state.Valves.{Valves}

@@ -1,7 +1,7 @@
-use Rattle.std.proofs.Common.{◌≡◌, ℕ, ◌+◌, ◌≤◌, List, [], ◌∷◌, ◌++◌, length, get_or, take, Some, None, sym, ap, ◌∙◌, subst, append-nil, arith, take_all}
+use Rattle.std.proofs.Common.{◌≡◌, ◌+◌, ◌≤◌, length, take, sym, ap, ◌∙◌, subst, arith, take_all}
 use Rattle.table.specs.declared.records.Votes.{Votes}
-use Rattle.table.specs.Ballots.{backers_from, before, vote_for, listed}
-use Rattle.table.proofs.Backing.{backers_more, listed_push, one_joined, none_joined, backers_few}
+use Rattle.table.specs.Ballots.{backers_from, listed}
+use Rattle.table.proofs.Backing.{one_joined, none_joined, backers_few}
 use Rattle.table.proofs.ballots.backers_in.Goals as goal
 use Rattle.table.proofs.ballots.backers_in.Goals.{in-Some, in-None}
 

@@ -1,4 +1,4 @@
-use Rattle.std.proofs.Common.{Some, sym, arith}
+use Rattle.std.proofs.Common.{Some, sym}
 use Rattle.std.proofs.lemmas.List.{set_past}
 use Rattle.table.proofs.ballots.set_slot.Goals as goal
 

@@ -1,4 +1,3 @@
-use Rattle.std.proofs.Common.{arith}
 use Rattle.table.proofs.Entering.{one_entered, all_done}
 use Rattle.table.proofs.window.enter_places.Goals as goal
 

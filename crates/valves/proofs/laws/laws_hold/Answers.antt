@@ -1,4 +1,4 @@
-use Rattle.std.proofs.Common.{◌≡◌, ℕ, cond, eqb, Some, None, Option, refl}
+use Rattle.std.proofs.Common.{◌≡◌, ℕ, eqb, Some, None, Option, refl}
 use Rattle.std.proofs.lemmas.Bool.{cond-false, ne_eqb}
 use Rattle.valves.specs.declared.book.Book.{Book}
 use Rattle.valves.specs.declared.order.ValveOrder.{ValveOrder}

@@ -1,4 +1,4 @@
-use Rattle.std.proofs.Common.{◌≡◌, get_or, sym, ap, ◌∙◌, take_all}
+use Rattle.std.proofs.Common.{get_or, sym, ap, ◌∙◌, take_all}
 use Rattle.std.specs.List.{flat_map}
 use Rattle.application.specs.Payload.{bytes4}
 use Rattle.application.proofs.Folds.{folded_joined_more}

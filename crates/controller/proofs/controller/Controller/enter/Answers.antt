@@ -10,7 +10,7 @@ accept_enter-issued-requires g c =
 
 pub invariant_of-self : goal.invariant_of-self
 invariant_of-self g c =
-    (subst Sound (sym c.accept_enter-issued.ensures.core) (enter_sound c.args.self.now.core c.args.new.now c.args.records.now c.in-Ok.opened c.args.self.now.sound c.in-Ok.ensures.2), tt)
+    record { sound = subst Sound (sym c.accept_enter-issued.ensures.core) (enter_sound c.args.self.now.core c.args.new.now c.args.records.now c.in-Ok.opened c.args.self.now.sound c.in-Ok.ensures.2) }
 
 pub returns-in-Ok : goal.returns-in-Ok
 returns-in-Ok g c =

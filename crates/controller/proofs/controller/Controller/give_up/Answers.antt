@@ -10,7 +10,7 @@ accept_give_up-forwarded-requires g c =
     record { sound = c.args.self.now.sound; room = may.0; more = may.1 }
 
 pub invariant_of-self : goal.invariant_of-self
-invariant_of-self g c = let h = c.args.self.now.sound in (subst Sound (sym c.accept_give_up-forwarded.ensures.core) (h.0, h.1, h.2, h.3), tt)
+invariant_of-self g c = let h = c.args.self.now.sound in record { sound = subst Sound (sym c.accept_give_up-forwarded.ensures.core) (h.0, h.1, h.2, h.3) }
 
 pub returns-in-None : goal.returns-in-None
 returns-in-None g c =

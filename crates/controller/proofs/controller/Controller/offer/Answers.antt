@@ -10,4 +10,4 @@ accept_offer-requires g c =
 
 pub invariant_of-self-in-None : goal.invariant_of-self-in-None
 invariant_of-self-in-None g c =
-    (subst Sound (sym c.accept_offer.ensures.core) (offer_sound c.args.self.now.core c.args.proposal.now c.args.requests.now c.args.self.now.sound), tt)
+    record { sound = subst Sound (sym c.accept_offer.ensures.core) (offer_sound c.args.self.now.core c.args.proposal.now c.args.requests.now c.args.self.now.sound) }

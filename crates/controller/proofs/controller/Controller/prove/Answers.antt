@@ -16,14 +16,14 @@ deliver_ready-progress-requires g c =
     let sound = c.args.self.now.sound in
     let first = c.deliver_one-first in
     let more = first.ensures.more in
-    let none = c.none.ensures in
+    let none = c.none-none.ensures in
     let issued = ap (λ (p : Progress). p.issued) none in
     let batches = ap (λ (p : Progress). p.batches) none in
     let applied = ap (λ (p : Progress). p.applied) none in
     let passed = ap (λ (p : Progress). p.passed) none in
     record {
       stable = omega (arith, ap (λ (k : Core). k.table.stable) first.ensures.reached.core, sound.0);
-      low = one_low g.A.Application.next g.A.Application.marked core c.args.self.now.app c.args.requests.now c.args.outbox.now c.none.result first.new.core first.new.app first.new.outbox first.result may.2 first.ensures.reached;
+      low = one_low g.A.Application.next g.A.Application.marked core c.args.self.now.app c.args.requests.now c.args.outbox.now c.none-none.result first.new.core first.new.app first.new.outbox first.result may.2 first.ensures.reached;
       room = omega (arith, may.1, more.0, issued, first.auto.outbox);
       begun = (omega (arith, more.0), omega (arith, more.1), omega (arith, more.2), omega (arith, more.3));
     }
@@ -39,12 +39,12 @@ returns-in-None g c =
     let may = prove_may (g.C.SealChecker.accepts c.args.checker.now) (g.D.Digest.value c.args.self.now.digest) core box c.args.number rs c.args.commits.now c.in-None.ensures in
     let first = c.deliver_one-first in
     let more = first.ensures.more in
-    let issued = ap (λ (p : Progress). p.issued) c.none.ensures in
+    let issued = ap (λ (p : Progress). p.issued) c.none-none.ensures in
     let last = c.deliver_ready-progress.new in
     let p = c.deliver_ready-progress.result in
     let one = deliver_one next marked (own core) (begin next marked core x []) rs in
     let was : Reached core box no_progress one first.new.core first.new.app first.new.outbox first.result =
-    subst (λ q. Reached core box q one first.new.core first.new.app first.new.outbox first.result) c.none.ensures first.ensures.reached in
+    subst (λ q. Reached core box q one first.new.core first.new.app first.new.outbox first.result) c.none-none.ensures first.ensures.reached in
     let reached = goes_on next marked core box no_progress one first.new.core first.new.app first.new.outbox first.result was (omega (arith, may.1, more.0, issued))
     last.core last.app last.outbox p c.deliver_ready-progress.ensures.reached in
     record {

@@ -33,11 +33,11 @@ deliver_ready-progress-requires g c =
 pub invariant_of-self-in-None : goal.invariant_of-self-in-None
 invariant_of-self-in-None g c =
     let t = supply_tame c.args.self.now.core c.args.number c.args.requests.now c.args.self.now.sound in
-    let start = begin g.A.Application.next g.A.Application.marked c.accept_supply.new.core c.args.self.now.app [] in (
-      flow_sound g.A.Application.next g.A.Application.marked c.accept_supply.new.core (deliver_ready g.A.Application.next g.A.Application.marked 32 c.accept_supply.new.core start)
-          c.deliver_ready-progress.new.core c.deliver_ready-progress.ensures.reached.core (subst (λ (k : Core). Tame k.table) (sym c.accept_supply.ensures) t) c.deliver_ready-progress.ensures.low,
-      tt,
-    )
+    let start = begin g.A.Application.next g.A.Application.marked c.accept_supply.new.core c.args.self.now.app [] in
+    record {
+      sound = flow_sound g.A.Application.next g.A.Application.marked c.accept_supply.new.core (deliver_ready g.A.Application.next g.A.Application.marked 32 c.accept_supply.new.core start)
+          c.deliver_ready-progress.new.core c.deliver_ready-progress.ensures.reached.core (subst (λ (k : Core). Tame k.table) (sym c.accept_supply.ensures) t) c.deliver_ready-progress.ensures.low;
+    }
 
 pub returns-in-None : goal.returns-in-None
 returns-in-None g c =

@@ -35,11 +35,11 @@ invariant_of-self g c =
     let core = c.args.self.now.core in
     let accepts = g.C.SealChecker.accepts c.args.checker.now in
     let after = c.accept_vote-issued.new.core in
-    let t = vote_tame accepts core c.args.outbox.now c.args.vote.now c.in-None.ensures c.args.self.now.sound in (
-      flow_sound g.A.Application.next g.A.Application.marked after (deliver_ready g.A.Application.next g.A.Application.marked 32 after (begin g.A.Application.next g.A.Application.marked after c.args.self.now.app [])) c.deliver_ready-progress.new.core c.deliver_ready-progress.ensures.reached.core
-          (subst (λ (k : Core). Tame k.table) (sym c.accept_vote-issued.ensures.core) t) c.deliver_ready-progress.ensures.low,
-      tt,
-    )
+    let t = vote_tame accepts core c.args.outbox.now c.args.vote.now c.in-None.ensures c.args.self.now.sound in
+    record {
+      sound = flow_sound g.A.Application.next g.A.Application.marked after (deliver_ready g.A.Application.next g.A.Application.marked 32 after (begin g.A.Application.next g.A.Application.marked after c.args.self.now.app [])) c.deliver_ready-progress.new.core c.deliver_ready-progress.ensures.reached.core
+          (subst (λ (k : Core). Tame k.table) (sym c.accept_vote-issued.ensures.core) t) c.deliver_ready-progress.ensures.low;
+    }
 
 pub returns-in-None : goal.returns-in-None
 returns-in-None g c =

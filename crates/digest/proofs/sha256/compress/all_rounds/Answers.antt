@@ -1,4 +1,4 @@
-use Rattle.std.proofs.Common.{◌≡◌, refl, ◌∙◌, arith}
+use Rattle.std.proofs.Common.{refl, ◌∙◌, arith}
 use Rattle.digest.specs.Constants.{K}
 use Rattle.digest.specs.Sha256.{rounds}
 use Rattle.digest.proofs.Rounds.{rounds_more, rounds_at}

@@ -1,4 +1,4 @@
-use Rattle.std.proofs.Common.{◌≡◌, ap, ◌∙◌}
+use Rattle.std.proofs.Common.{ap, ◌∙◌}
 use Rattle.group.specs.Group.{quorum_held}
 use Rattle.table.specs.Ballots.{backers, vote_signer}
 use Rattle.table.proofs.Backing.{slice_is}

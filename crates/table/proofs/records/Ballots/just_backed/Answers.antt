@@ -1,4 +1,4 @@
-use Rattle.std.proofs.Common.{◌≡◌, true, not, is_some, ap, ◌∙◌}
+use Rattle.std.proofs.Common.{true, not, is_some, ap, ◌∙◌}
 use Rattle.group.specs.Group.{list_fault}
 use Rattle.table.specs.Ballots.{backers, vote_signer}
 use Rattle.table.proofs.Backing.{slice_is, flip}

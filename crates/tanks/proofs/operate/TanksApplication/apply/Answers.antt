@@ -1,4 +1,4 @@
-use Rattle.std.proofs.Common.{◌≡◌, sym, ap, ◌∙◌, subst}
+use Rattle.std.proofs.Common.{sym, ap, ◌∙◌, subst}
 use Rattle.tanks.specs.Farm.{carried_out, code_of}
 use Rattle.tanks.specs.Keeps.{Sound, keeps}
 use Rattle.tanks.specs.Orders.{order_of}

@@ -1,8 +1,8 @@
-use Rattle.std.proofs.Common.{◌≡◌, ℕ, List, ap, ◌∙◌}
+use Rattle.std.proofs.Common.{ℕ, List, ap, ◌∙◌}
 use Rattle.std.specs.List.{flat_map}
 use Rattle.application.specs.Payload.{bytes2, bytes4}
 use Rattle.application.proofs.Folds.{folded_three}
-use Rattle.digest.specs.Fnv.{mix, fnv_from, fnv1a}
+use Rattle.digest.specs.Fnv.{mix, fnv_from}
 use Rattle.valves.proofs.book.Book.fnv1a.Goals as goal
 
 pub returns : goal.returns

@@ -1,4 +1,4 @@
-use Rattle.std.proofs.Common.{◌≡◌, sym, ap, ◌∙◌, subst}
+use Rattle.std.proofs.Common.{sym, ap, ◌∙◌, subst}
 use Rattle.valves.specs.Book.{carried_out, code_of}
 use Rattle.valves.specs.Keeps.{Sound, keeps}
 use Rattle.valves.specs.Orders.{order_of}
