@@ -1,5 +1,5 @@
 -- The walk over the dossier of true partings, part by part.
-use Rattle.std.proofs.Common.{◌≡◌, ℕ, zero, suc, ◌+◌, ◌-◌, ◌<◌, ◌≤◌, Bool, true, false, cond, not, ◌&&◌, eqb, ltb, leb, ◌⊎◌, List, [], ◌∷◌, ◌++◌, map, length, get_or, take, drop, Some, None, Ok, Err, fold, Option, Result, sym, refl, ap, ◌∙◌, subst, inl, inr, append_assoc, arith, length-append}
+use Rattle.std.proofs.Common.{◌≡◌, ℕ, zero, suc, ◌+◌, ◌-◌, ◌<◌, ◌≤◌, Bool, true, false, cond, not, ◌&&◌, eqb, ltb, List, [], ◌∷◌, ◌++◌, map, length, get_or, take, drop, Some, None, Ok, Err, fold, Result, sym, refl, ap, ◌∙◌, subst, inl, inr, append_assoc, arith, length-append}
 use Rattle.std.specs.List.{range_with_len, flat_map, AllByRecursion as All}
 use Rattle.std.proofs.lemmas.List.{append-nil, get_or_at, drop_at, take_at, get_or-drop}
 use Rattle.std.proofs.ByRecursion.{All-weaker}
@@ -18,7 +18,7 @@ use Rattle.dossier.specs.declared.tally.Tally.{Tally}
 use Rattle.dossier.specs.declared.tally.Helds.{Helds}
 use Rattle.dossier.specs.declared.tally.Found.{Found}
 use Rattle.dossier.specs.declared.tally.Span.{Span}
-use Rattle.dossier.specs.Walk.{onward, or_fault, largest, mark_at, last_asked, blank, tallied, held_fits, stable_fits, quorum_from, held_one, helds_from, helds, found, numbers, checkpoints, after_stables, walked}
+use Rattle.dossier.specs.Walk.{onward, or_fault, largest, mark_at, last_asked, blank, tallied, held_fits, stable_fits, quorum_from, held_one, helds_from, found, numbers, checkpoints, after_stables, walked}
 use Rattle.dossier.proofs.Passage.{never, went}
 use Rattle.dossier.proofs.Steps.{stables_enough}
 use Rattle.host.specs.Partings.{one_at, first_of, stable_in, held_in, claim_in, claimed_epoch, checkpoints_in, prepares_in, higher, highest}

@@ -1,12 +1,12 @@
 -- What the first highest of several partings is.
-use Rattle.std.proofs.Common.{◌≡◌, ℕ, ◌+◌, ◌-◌, ◌<◌, ◌≤◌, max, Bool, true, false, cond, ◌&&◌, ltb, leb, ◌⊎◌, List, [], ◌∷◌, ◌++◌, map, length, get_or, take, drop, fold, sym, refl, ap, ◌∙◌, subst, inl, inr, arith}
+use Rattle.std.proofs.Common.{◌≡◌, ℕ, ◌+◌, ◌-◌, ◌<◌, ◌≤◌, max, ◌&&◌, ltb, leb, ◌⊎◌, List, [], ◌∷◌, map, length, get_or, take, fold, refl, ap, ◌∙◌, inr, arith}
 use Rattle.std.specs.List.{flat_map, AllByRecursion as All}
 use Rattle.std.proofs.lemmas.List.{drop_all, drop_more}
-use Rattle.std.proofs.lemmas.Bool.{ltb-true, ltb-false, cond_both, cond-true, cond-false, and_from, and_right, lt-ltb, le-leb, lt-leb, le-ltb}
+use Rattle.std.proofs.lemmas.Bool.{ltb-true, ltb-false, cond_both, cond-true, cond-false, and_from, and_right, lt-ltb, le-leb, lt-leb}
 use Rattle.wire.specs.declared.records.Sealed.{Sealed}
 use Rattle.seal.specs.Records.{none}
 use Rattle.dossier.specs.Walk.{larger}
-use Rattle.host.specs.Partings.{one_at, first_of, stable_in, held_in, claim_in, claimed_epoch, higher}
+use Rattle.host.specs.Partings.{one_at, stable_in, held_in, higher}
 
 module _ (key : List Sealed → ℕ) where
   -- what holds of all holds of it

@@ -1,5 +1,5 @@
 -- The worked partings are true ones: by trying each of their 32 numbers.
-use Rattle.std.proofs.Common.{◌≡◌, ℕ, zero, suc, ◌+◌, ◌-◌, ◌<◌, ◌≤◌, Bool, true, false, not, ◌&&◌, ◌||◌, eqb, ltb, leb, ◌⊎◌, List, [], ◌∷◌, length, get_or, Ok, Err, Result, sym, refl, ap, ◌∙◌, subst, inl, inr, arith, lit<, lit≤}
+use Rattle.std.proofs.Common.{◌≡◌, ℕ, zero, suc, ◌+◌, ◌-◌, ◌<◌, ◌≤◌, Bool, true, false, not, ◌&&◌, ◌||◌, eqb, ltb, List, [], length, get_or, Ok, Err, Result, refl, ap, ◌∙◌, subst, inl, inr, arith, lit<}
 use Rattle.std.proofs.lemmas.Bool.{cases_lt, cases_eq, and_parts, and_left, or_cases, not-true, cond-false, lt-ltb, le-ltb, eqb-true, both_ways}
 use Rattle.wire.specs.Values.{same_digest}
 use Rattle.wire.specs.declared.records.Sealed.{Sealed}
@@ -8,8 +8,8 @@ use Rattle.seal.proofs.Sameness.{same_digest_is}
 use Rattle.group.specs.Group.{grouped, exactly}
 use Rattle.dossier.specs.Walk.{held_fits}
 use Rattle.dossier.specs.Cases.{fives}
-use Rattle.host.specs.Partings.{first_of, stable_in, held_in, claim_in, claimed_epoch, checkpoints_in, prepares_in}
-use Rattle.host.specs.Laws.{Quorum, Claims, TrueParting}
+use Rattle.host.specs.Partings.{first_of, stable_in, held_in, claim_in, claimed_epoch, prepares_in}
+use Rattle.host.specs.Laws.{Quorum, Claims}
 use Rattle.host.specs.Cases.{in_epoch_3, certified, parting_0, parting_1, parting_3, Premises}
 use Rattle.host.proofs.Highest.{held_none}
 

@@ -1,10 +1,10 @@
 -- Exercise seals: every party's key comes of the one secret, so this is no signature.
-use Rattle.std.specs.Prelude.{◌≡◌, ℕ, Bool, cond, List, [], ◌∷◌, ◌++◌, Decides, ◌==◌}
+use Rattle.std.specs.Prelude.{◌≡◌, ℕ, Bool, cond, [], ◌∷◌, ◌++◌, Decides, ◌==◌}
 use Rattle.wire.specs.Bytes.{bytes8}
 use Rattle.wire.specs.Frames.{statement_bytes}
 use Rattle.wire.specs.declared.records.Statement.{Statement}
 use Rattle.wire.specs.declared.records.Sealed.{Sealed}
-use Rattle.digest.specs.Fnv.{fnv_from, fnv1a}
+use Rattle.digest.specs.Fnv.{fnv1a}
 
 -- who seals a kind: 1 a client (requests), 0 a controller
 abbrev pub party_of : ℕ → ℕ

@@ -1,5 +1,5 @@
 -- How many members a leader set has, one controller more.
-use Rattle.std.proofs.Common.{◌≡◌, ℕ, suc, ◌+◌, Bool, true, false, sym, refl, ap, ◌∙◌, arith}
+use Rattle.std.proofs.Common.{◌≡◌, ℕ, suc, ◌+◌, Bool, true, false, ap, arith}
 use Rattle.quorum.specs.Sets.{count, one}
 
 pub count_in : (p : ℕ → Bool) (k : ℕ) → p k ≡ true → count p (k + 1) ≡ count p k + 1

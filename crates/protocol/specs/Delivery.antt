@@ -1,5 +1,5 @@
 -- Delivery: each next number above the stable one that is committed with a known batch.
-use Rattle.std.specs.Prelude.{ℕ, zero, suc, ◌+◌, ◌%◌, Bool, cond, List, [], ◌∷◌, ◌++◌, Some, None, Option, ◌==◌}
+use Rattle.std.specs.Prelude.{ℕ, zero, suc, ◌+◌, ◌%◌, cond, List, [], ◌∷◌, ◌++◌, Some, None, Option, ◌==◌}
 use Rattle.wire.specs.declared.records.DigestValue.{DigestValue}
 use Rattle.wire.specs.declared.records.Statement.{Statement}
 use Rattle.wire.specs.declared.records.Request.{Request}
@@ -11,7 +11,7 @@ use Rattle.table.specs.declared.records.Table.{Table}
 use Rattle.table.specs.Ballots.{backed}
 use Rattle.table.specs.Window.{in_window, place_at}
 use Rattle.window.specs.declared.windows.Windows.{Windows}
-use Rattle.window.specs.Deliveries.{Course, delivered}
+use Rattle.window.specs.Deliveries.{delivered}
 use Rattle.protocol.specs.declared.records.Core.{Core}
 use Rattle.protocol.specs.State.{size, own, enough}
 

@@ -1,12 +1,11 @@
 -- Enter: a primary begins an epoch with a dossier, which says what of the earlier epochs must be kept.
-use Rattle.std.specs.Prelude.{◌≡◌, ℕ, zero, suc, ◌+◌, ◌≤◌, Bool, true, false, cond, not, ◌||◌, List, [], ◌∷◌, map, Some, None, Ok, Err, Option, Result, ◌==◌, nat_le, nat_lt}
+use Rattle.std.specs.Prelude.{◌≡◌, ℕ, zero, suc, ◌+◌, ◌≤◌, Bool, false, cond, not, ◌||◌, List, [], ◌∷◌, map, Some, None, Ok, Err, Option, Result, ◌==◌, nat_le, nat_lt}
 use Rattle.wire.specs.declared.records.DigestValue.{DigestValue}
 use Rattle.wire.specs.declared.records.Statement.{Statement}
 use Rattle.wire.specs.declared.records.Sealed.{Sealed}
 use Rattle.wire.specs.Values.{number_of}
 use Rattle.table.specs.declared.records.Vote.{Vote}
 use Rattle.table.specs.declared.records.Votes.{Votes}
-use Rattle.table.specs.declared.records.Table.{Table}
 use Rattle.table.specs.Ballots.{listed}
 use Rattle.table.specs.Window.{move_to, enter_all}
 use Rattle.dossier.specs.declared.parts.Terms.{Terms}

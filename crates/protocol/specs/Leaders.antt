@@ -1,5 +1,5 @@
 -- Who leads: leader sets as numbers whose bit i stands for controller i, owners of numbers and buckets, primaries.
-use Rattle.std.specs.Prelude.{ℕ, ◌+◌, ◌-◌, ◌/◌, ◌%◌, ◌^◌, max, Bool, not, ◌&&◌, ◌==◌}
+use Rattle.std.specs.Prelude.{ℕ, ◌+◌, ◌-◌, ◌/◌, ◌%◌, ◌^◌, max, Bool, ◌&&◌, ◌==◌}
 use Rattle.quorum.specs.Sets.{count}
 use Rattle.protocol.specs.declared.records.View.{View}
 

@@ -1,5 +1,5 @@
 -- Offer: a leader proposes a batch for a number. It fills the number's place, and a prepare is issued.
-use Rattle.std.specs.Prelude.{ℕ, ◌+◌, ◌%◌, Bool, true, false, cond, not, ◌&&◌, ◌||◌, List, [], ◌∷◌, length, take, is_some, Some, None, Option, ◌==◌, nat_le, nat_lt}
+use Rattle.std.specs.Prelude.{ℕ, ◌+◌, Bool, false, cond, not, ◌&&◌, ◌||◌, List, [], ◌∷◌, length, take, is_some, Some, None, Option, ◌==◌, nat_le, nat_lt}
 use Rattle.wire.specs.declared.records.DigestValue.{DigestValue}
 use Rattle.wire.specs.declared.records.Statement.{Statement}
 use Rattle.wire.specs.declared.records.Sealed.{Sealed}
@@ -9,10 +9,8 @@ use Rattle.wire.specs.Values.{value_of, same_digest, request_statement}
 use Rattle.wire.specs.Frames.{requests_of, stored}
 use Rattle.digest.specs.Batched.{batch_digest, bucket_of}
 use Rattle.table.specs.declared.records.Place.{Place}
-use Rattle.table.specs.declared.records.Table.{Table}
 use Rattle.table.specs.Window.{place_at, fill_at}
 use Rattle.window.specs.Clients.{admits}
-use Rattle.protocol.specs.declared.records.View.{View}
 use Rattle.protocol.specs.declared.records.Core.{Core}
 use Rattle.protocol.specs.declared.refusal.Refusal.{Refusal}
 use Rattle.protocol.specs.declared.refusal.Refusal.TheVariants.{Room, Signer, Kind, Epoch, Number, Authority, Seal, Standing, Batch as BadBatch}

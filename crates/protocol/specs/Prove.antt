@@ -11,7 +11,7 @@ use Rattle.protocol.specs.declared.refusal.Refusal.{Refusal}
 use Rattle.protocol.specs.declared.refusal.Refusal.TheVariants.{Room, Number, Batch as BadBatch}
 use Rattle.protocol.specs.Refusals.{first_of, or_else, at_record}
 use Rattle.protocol.specs.State.{size, own, enough, limit}
-use Rattle.protocol.specs.Delivery.{Flow, deliver_one, begin}
+use Rattle.protocol.specs.Delivery.{deliver_one, begin}
 use Rattle.protocol.specs.Call.{Effect, Step, called, cramped, delivering}
 use Rattle.protocol.specs.Offer.{no_batch_of}
 

@@ -4,7 +4,6 @@ use Rattle.quorum.specs.declared.house.House.{House}
 use Rattle.quorum.specs.Sizes.{quorum}
 use Rattle.table.specs.declared.records.Table.{Table}
 use Rattle.table.specs.Window.{new_table}
-use Rattle.window.specs.declared.windows.Windows.{Windows}
 use Rattle.window.specs.Clients.{all_fresh}
 use Rattle.protocol.specs.declared.records.View.{View}
 use Rattle.protocol.specs.declared.records.Core.{Core}

@@ -1,12 +1,11 @@
 -- Supply: the batch of a number whose proposal came without it.
-use Rattle.std.specs.Prelude.{ℕ, Bool, true, false, not, ◌||◌, List, [], ◌∷◌, is_some, Some, None, Option}
+use Rattle.std.specs.Prelude.{ℕ, Bool, not, ◌||◌, List, [], ◌∷◌, is_some, Option}
 use Rattle.std.specs.Option.{unwrap_or}
 use Rattle.wire.specs.declared.records.DigestValue.{DigestValue}
 use Rattle.wire.specs.declared.records.Sealed.{Sealed}
 use Rattle.wire.specs.declared.records.Request.{Request}
 use Rattle.wire.specs.Values.{value_of}
 use Rattle.wire.specs.Frames.{stored}
-use Rattle.table.specs.declared.records.Place.{Place}
 use Rattle.table.specs.Window.{in_window, place_at, supply_at}
 use Rattle.protocol.specs.declared.records.Core.{Core}
 use Rattle.protocol.specs.declared.refusal.Refusal.{Refusal}

@@ -1,5 +1,5 @@
 -- Vote: a prepare, a commit or a checkpoint of a controller.
-use Rattle.std.specs.Prelude.{ℕ, ◌+◌, ◌%◌, Bool, true, false, cond, not, ◌&&◌, ◌||◌, List, [], ◌∷◌, Some, None, Option, ◌==◌, nat_le, nat_lt}
+use Rattle.std.specs.Prelude.{ℕ, ◌%◌, Bool, cond, not, ◌&&◌, ◌||◌, List, [], ◌∷◌, Option, ◌==◌, nat_le, nat_lt}
 use Rattle.wire.specs.declared.records.DigestValue.{DigestValue}
 use Rattle.wire.specs.declared.records.Statement.{Statement}
 use Rattle.wire.specs.declared.records.Sealed.{Sealed}
@@ -13,7 +13,7 @@ use Rattle.protocol.specs.declared.refusal.Refusal.{Refusal}
 use Rattle.protocol.specs.declared.refusal.Refusal.TheVariants.{Room, Signer, Kind, Epoch, Number, Seal, Standing, Unproposed}
 use Rattle.protocol.specs.Refusals.{first_of}
 use Rattle.protocol.specs.State.{size, own, enough, with_table, limit}
-use Rattle.protocol.specs.Delivery.{Flow, begin}
+use Rattle.protocol.specs.Delivery.{begin}
 use Rattle.protocol.specs.Call.{Effect, Step, called, cramped, delivering}
 
 -- prepares and commits are of an epoch, checkpoints are not

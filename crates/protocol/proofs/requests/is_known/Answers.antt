@@ -1,4 +1,4 @@
-use Rattle.std.proofs.Common.{◌+◌, sym, ap, ◌∙◌, arith}
+use Rattle.std.proofs.Common.{◌+◌, sym, ◌∙◌}
 use Rattle.table.specs.Places.{past}
 use Rattle.protocol.proofs.Known.{known_more, known_found, known_all}
 use Rattle.protocol.proofs.requests.is_known.Goals as goal
