@@ -1,7 +1,5 @@
 -- Cases of sizes, leaders, client windows, frames, the dossier and the valves.
 use Rattle.std.specs.Prelude.{◌≡◌, ℕ, true, false, List, [], ◌∷◌, ◌++◌, map, length, take, Some, None, Ok, Err, Option, Result, slice_set}
-use Rattle.wire.specs.declared.records.Sealed.{Sealed}
-use Rattle.wire.specs.declared.records.Batch.{Batch}
 use Rattle.wire.specs.declared.faults.FrameFault.{FrameFault}
 use Rattle.wire.specs.Values.{value_of}
 use Rattle.wire.specs.Frames.{write_sealed, read_sealed, read_batch}

@@ -1,6 +1,5 @@
 -- The table of worked cases.
 use Rattle.std.specs.Prelude.{◌≡◌, [], ◌∷◌, map}
-use Rattle.wire.specs.declared.faults.FrameFault.{FrameFault}
 use Rattle.protocol.specs.declared.refusal.Refusal.TheVariants.{House, Room, Frame, Signer, Kind, Epoch, Number, Authority, Seal, Standing, Unproposed, Batch, Request, Record, Unfinished, LastEpoch}
 use Rattle.protocol.specs.Refusals.{refusal_number}
 use Rattle.cases.specs.Basics.{SizesOfHouses, LeadersOfEpoch, WindowOfClient, FrameOfPrepare, DossierOfEpoch3, ValveOpenedTwice}

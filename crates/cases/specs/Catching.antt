@@ -2,7 +2,6 @@
 use Rattle.std.specs.Prelude.{◌≡◌, ℕ, List, [], ◌∷◌, replicate, Some, None, Err}
 use Rattle.wire.specs.declared.records.Sealed.{Sealed}
 use Rattle.wire.specs.declared.records.Request.{Request}
-use Rattle.wire.specs.Values.{value_of}
 use Rattle.wire.specs.Frames.{stored}
 use Rattle.table.specs.Ballots.{no_ballots}
 use Rattle.table.specs.Places.{empty_place}

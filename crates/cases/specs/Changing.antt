@@ -1,14 +1,12 @@
 -- Cases of give up, enter and turn.
-use Rattle.std.specs.Prelude.{◌≡◌, ℕ, true, false, List, [], ◌∷◌, ◌++◌, length, take, drop, replicate, Some, None, Err}
+use Rattle.std.specs.Prelude.{◌≡◌, ℕ, true, false, List, [], ◌∷◌, ◌++◌, take, drop, replicate, Some, None, Err}
 use Rattle.wire.specs.declared.records.Sealed.{Sealed}
 use Rattle.wire.specs.Values.{value_of}
 use Rattle.wire.specs.Frames.{stored}
 use Rattle.table.specs.Ballots.{no_votes, no_ballots, listed}
 use Rattle.table.specs.Places.{empty_place}
-use Rattle.table.specs.Window.{move_to}
 use Rattle.dossier.specs.Cases.{fives, said, forged, prepare, checkpoint, stable, held, backing, three_from, dossier}
 use Rattle.protocol.specs.declared.records.Core.{Core}
-use Rattle.protocol.specs.declared.records.View.{View}
 use Rattle.protocol.specs.declared.refusal.Refusal.TheVariants.{Room, Signer, Kind, Epoch, Number, Authority, Seal, Record, Unfinished, LastEpoch}
 use Rattle.protocol.specs.State.{with_table}
 use Rattle.protocol.specs.Call.{Step}

@@ -5,7 +5,6 @@ use Rattle.wire.specs.declared.records.Request.{Request}
 use Rattle.wire.specs.Values.{value_of}
 use Rattle.wire.specs.Frames.{stored}
 use Rattle.seal.specs.Records.{none}
-use Rattle.table.specs.declared.records.Ballots.{Ballots}
 use Rattle.table.specs.Ballots.{no_ballots}
 use Rattle.window.specs.Clients.{window_of}
 use Rattle.dossier.specs.Cases.{fives, said, forged, prepare, checkpoint}

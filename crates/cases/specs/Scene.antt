@@ -1,6 +1,6 @@
 -- The scene of the cases: controller 0 of a house of four, a simple digest, a simple application, and who says what. A genuine
 -- statement has the seal 5.
-use Rattle.std.specs.Prelude.{ℕ, zero, suc, ◌+◌, true, false, List, [], ◌∷◌, replicate, Some, None, Ok, Err, sum, Option, Result, refl}
+use Rattle.std.specs.Prelude.{ℕ, zero, suc, ◌+◌, true, false, List, [], ◌∷◌, replicate, Some, None, Ok, sum, Option, Result, refl}
 use Rattle.std.proofs.Common.{lit≤, lit<}
 use Rattle.wire.specs.declared.records.DigestValue.{DigestValue}
 use Rattle.wire.specs.declared.records.Sealed.{Sealed}

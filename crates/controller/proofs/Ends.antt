@@ -1,5 +1,5 @@
 -- The end of a call that delivers.
-use Rattle.std.proofs.Common.{◌≡◌, ℕ, suc, ◌+◌, ◌-◌, ◌<◌, ◌≤◌, Bool, true, false, cond, not, ◌||◌, eqb, ltb, List, [], ◌∷◌, ◌++◌, map, length, take, drop, is_some, Some, None, Ok, Err, Option, unwrap_or, sym, refl, ap, ◌∙◌, subst, append-nil, arith}
+use Rattle.std.proofs.Common.{◌≡◌, ℕ, suc, ◌+◌, ◌-◌, ◌≤◌, Bool, true, false, cond, not, ◌||◌, eqb, ltb, List, [], ◌∷◌, ◌++◌, map, length, drop, is_some, None, Ok, Option, unwrap_or, sym, refl, ap, ◌∙◌, subst, append-nil, arith}
 use Rattle.std.proofs.lemmas.Bool.{or_parts, ltb-false, eqb-true, cond-false, ne_eqb}
 use Rattle.wire.specs.declared.records.DigestValue.{DigestValue}
 use Rattle.wire.specs.declared.records.Statement.{Statement}
@@ -7,9 +7,8 @@ use Rattle.wire.specs.declared.records.Sealed.{Sealed}
 use Rattle.wire.specs.declared.records.Request.{Request}
 use Rattle.wire.specs.Values.{value_of}
 use Rattle.wire.specs.Frames.{stored}
-use Rattle.table.specs.declared.records.Table.{Table}
 use Rattle.table.specs.Places.{supplied}
-use Rattle.table.specs.Window.{in_window, place_at, supply_at}
+use Rattle.table.specs.Window.{in_window, place_at}
 use Rattle.group.specs.Group.{commits_fault}
 use Rattle.protocol.specs.declared.records.Core.{Core}
 use Rattle.protocol.specs.declared.records.Answer.{Answer}
@@ -18,7 +17,7 @@ use Rattle.protocol.specs.declared.refusal.Refusal.{Refusal}
 use Rattle.protocol.specs.declared.refusal.Refusal.TheVariants.{Room, Number, Unproposed, Batch as BadBatch}
 use Rattle.protocol.specs.Refusals.{first_of, at_record}
 use Rattle.protocol.specs.State.{size, own, enough, limit}
-use Rattle.protocol.specs.Call.{Effect, unsealed, written_over, first_number, called, cramped, delivering}
+use Rattle.protocol.specs.Call.{unsealed, written_over, first_number, called, cramped, delivering}
 use Rattle.protocol.specs.Delivery.{Flow, deliver_ready, deliver_one, begin}
 use Rattle.protocol.specs.Offer.{no_batch_of}
 use Rattle.protocol.specs.Supply.{supply_refusal}

@@ -1,8 +1,7 @@
 -- Deliveries, one after another.
-use Rattle.std.proofs.Common.{◌≡◌, ℕ, zero, suc, ◌+◌, ◌-◌, ◌%◌, ◌<◌, ◌≤◌, Bool, true, false, cond, eqb, ltb, leb, List, [], ◌∷◌, ◌++◌, map, length, Some, None, Option, sym, refl, ap, ◌∙◌, subst, append_assoc, append-nil, arith}
+use Rattle.std.proofs.Common.{◌≡◌, ℕ, zero, suc, ◌+◌, ◌-◌, ◌%◌, ◌≤◌, Bool, true, false, cond, eqb, ltb, List, [], ◌∷◌, ◌++◌, map, length, Some, None, Option, sym, refl, ap, ◌∙◌, subst, append_assoc, append-nil, arith}
 use Rattle.std.proofs.lemmas.List.{length-append, length-map, map-append}
 use Rattle.std.proofs.lemmas.Bool.{and_parts, leb-true}
-use Rattle.wire.specs.declared.records.Statement.{Statement}
 use Rattle.wire.specs.declared.records.Sealed.{Sealed}
 use Rattle.wire.specs.declared.records.Request.{Request}
 use Rattle.wire.specs.declared.records.Batch.{Batch}
@@ -17,7 +16,7 @@ use Rattle.controller.specs.declared.progress.Progress.{Progress}
 use Rattle.protocol.specs.State.{size, own, enough}
 use Rattle.protocol.specs.Call.{unsealed}
 use Rattle.protocol.specs.Delivery.{Flow, ready, committed_batch, checkpoint_of, onto, deliver_one, deliver_ready, begin}
-use Rattle.controller.specs.Agree.{written_at, due, core_after, progress_after, Reached, Small, More}
+use Rattle.controller.specs.Agree.{written_at, due, core_after, progress_after, Reached}
 use Rattle.controller.proofs.Posts.{written_none, written_more}
 
 -- a number that is ready is at most 32 above the stable one

@@ -1,12 +1,11 @@
 -- What each change of a table keeps: no certificate gets more than 11 votes.
-use Rattle.std.proofs.Common.{◌≡◌, ℕ, zero, suc, ◌+◌, ◌-◌, ◌<◌, ◌≤◌, Bool, true, false, cond, ◌⊎◌, List, [], ◌∷◌, ◌++◌, length, get_or, drop, set, replicate, Some, None, Option, sym, refl, ap, ◌∙◌, subst, inl, inr, arith}
+use Rattle.std.proofs.Common.{◌≡◌, ℕ, zero, suc, ◌+◌, ◌-◌, ◌≤◌, ◌⊎◌, List, [], ◌∷◌, ◌++◌, get_or, drop, set, replicate, Some, None, Option, sym, refl, subst, inl, inr, arith}
 use Rattle.std.proofs.lemmas.Bool.{cond_both}
 use Rattle.wire.specs.declared.records.DigestValue.{DigestValue}
 use Rattle.table.specs.declared.records.Place.{Place}
 use Rattle.table.specs.declared.records.Table.{Table}
-use Rattle.table.specs.declared.records.Votes.{Votes}
 use Rattle.table.specs.Places.{past, empty_place, entered, all_entered}
-use Rattle.table.specs.Window.{in_window, place_at, with_place, move_to, shifted}
+use Rattle.table.specs.Window.{in_window, with_place}
 use Rattle.controller.specs.Sound.{held_votes, Few}
 
 -- no choice at all is no choice for each

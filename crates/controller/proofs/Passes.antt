@@ -1,5 +1,5 @@
 -- What is known where no check refuses.
-use Rattle.std.proofs.Common.{◌≡◌, ℕ, ◌+◌, ◌-◌, ◌<◌, ◌≤◌, Bool, true, false, cond, not, ◌||◌, eqb, ltb, leb, List, [], length, replicate, is_some, Some, None, Option, sym, refl, ap, ◌∙◌, arith}
+use Rattle.std.proofs.Common.{◌≡◌, ℕ, ◌+◌, ◌-◌, ◌≤◌, Bool, true, false, cond, not, ◌||◌, eqb, ltb, leb, List, [], length, replicate, is_some, Some, None, Option, refl, ◌∙◌, arith}
 use Rattle.std.proofs.lemmas.Bool.{ltb-false, or_parts}
 use Rattle.wire.specs.declared.records.DigestValue.{DigestValue}
 use Rattle.wire.specs.declared.records.Statement.{Statement}
@@ -8,7 +8,7 @@ use Rattle.wire.specs.declared.records.Request.{Request}
 use Rattle.wire.specs.Frames.{stored}
 use Rattle.quorum.specs.declared.house.House.{House}
 use Rattle.table.specs.Places.{filled}
-use Rattle.protocol.specs.declared.refusal.Refusal.TheVariants.{Room, Signer, Kind, Epoch, Number, Authority, Seal, Standing, Batch as BadBatch}
+use Rattle.protocol.specs.declared.refusal.Refusal.TheVariants.{Room, Signer, Kind, Epoch, Number, Authority, Standing, Batch as BadBatch}
 use Rattle.protocol.specs.Refusals.{or_else, at_request}
 use Rattle.protocol.specs.Leaders.{owns}
 use Rattle.protocol.specs.Offer.{not_offered, no_batch_of, first_bad, offer_refusal}

@@ -1,22 +1,22 @@
 -- What a vote does to a table, and that it keeps it tame.
-use Rattle.std.proofs.Common.{◌≡◌, ℕ, suc, ◌+◌, ◌-◌, ◌*◌, ◌/◌, ◌%◌, ◌<◌, ◌≤◌, min, Bool, true, false, cond, not, ◌&&◌, ◌||◌, eqb, ltb, leb, ◌⊎◌, List, [], ◌∷◌, ◌++◌, map, length, take, drop, set, replicate, is_some, Some, None, Option, sym, refl, ap, ◌∙◌, subst, inl, inr, append-nil, arith}
-use Rattle.std.proofs.lemmas.Bool.{or_parts, or_cases, and_cases, ltb-false, cond-true, cond_both}
+use Rattle.std.proofs.Common.{◌≡◌, ℕ, ◌+◌, ◌-◌, ◌%◌, ◌<◌, ◌≤◌, min, Bool, true, false, cond, not, ◌&&◌, ◌||◌, eqb, ltb, leb, List, [], ◌∷◌, map, length, drop, set, is_some, Some, None, Option, sym, refl, ap, ◌∙◌, arith}
+use Rattle.std.proofs.lemmas.Bool.{or_parts, ltb-false, cond-true, cond_both}
 use Rattle.wire.specs.declared.records.DigestValue.{DigestValue}
 use Rattle.wire.specs.declared.records.Statement.{Statement}
 use Rattle.wire.specs.declared.records.Sealed.{Sealed}
 use Rattle.quorum.specs.Sizes.{faults, quorum}
-use Rattle.group.specs.Group.{list_fault, Groups, Whole}
+use Rattle.group.specs.Group.{list_fault}
 use Rattle.group.proofs.Groups.{groups}
 use Rattle.table.specs.declared.records.Ballot.{Ballot}
 use Rattle.table.specs.declared.records.Ballots.{Ballots}
 use Rattle.table.specs.declared.records.Votes.{Votes}
 use Rattle.table.specs.declared.records.Table.{Table}
 use Rattle.table.specs.Ballots.{backers, listed, just_backed, vote_signer}
-use Rattle.table.specs.Places.{prepared, committed, certified, empty_place, proposes}
-use Rattle.table.specs.Window.{in_window, place_at, prepare_at, commit_at, certify_at, row_at, move_to}
+use Rattle.table.specs.Places.{prepared, committed, certified}
+use Rattle.table.specs.Window.{in_window, place_at, prepare_at, certify_at, row_at, move_to}
 use Rattle.protocol.specs.declared.records.Core.{Core}
 use Rattle.controller.specs.declared.progress.Progress.{Progress}
-use Rattle.protocol.specs.declared.refusal.Refusal.TheVariants.{Room, Signer, Kind, Epoch, Number, Seal, Standing, Unproposed}
+use Rattle.protocol.specs.declared.refusal.Refusal.TheVariants.{Room, Signer, Kind, Epoch, Number}
 use Rattle.protocol.specs.State.{size, own, enough, with_table, limit}
 use Rattle.protocol.specs.Call.{cramped, unsealed}
 use Rattle.protocol.specs.Delivery.{begin}

@@ -1,5 +1,5 @@
 -- What the code of the calls is held against: a step's parts, and parts of the definitions under names of their own.
-use Rattle.std.specs.Prelude.{◌≡◌, ℕ, ◌+◌, ◌%◌, ◌≤◌, Bool, cond, not, ◌||◌, List, [], ◌∷◌, ◌++◌, map, length, take, drop, Some, None, Ok, Err, Option, Result, ◌==◌}
+use Rattle.std.specs.Prelude.{◌≡◌, ℕ, ◌+◌, ◌%◌, ◌≤◌, cond, List, [], ◌∷◌, ◌++◌, map, length, take, drop, Some, Option, Result, ◌==◌}
 use Rattle.wire.specs.declared.records.DigestValue.{DigestValue}
 use Rattle.wire.specs.declared.records.Statement.{Statement}
 use Rattle.wire.specs.declared.records.Sealed.{Sealed}
@@ -16,7 +16,7 @@ use Rattle.protocol.specs.declared.refusal.Refusal.{Refusal}
 use Rattle.protocol.specs.State.{size, own, enough, with_view, with_table}
 use Rattle.protocol.specs.Change.{turned, given_up, stable_of, helds_from}
 use Rattle.protocol.specs.Delivery.{Flow, checkpoint_of}
-use Rattle.protocol.specs.Call.{Step, cramped, unsealed}
+use Rattle.protocol.specs.Call.{Step, unsealed}
 use Rattle.protocol.specs.Enter.{base_proof, choices, entered_view, prepares_chosen}
 
 -- a call's result, and what core, application and outbox are at its end, are those of a step

@@ -1,5 +1,5 @@
 -- What every controller keeps true, so that no number overflows and what it tells when it gives up fits its outbox.
-use Rattle.std.specs.Prelude.{ℕ, ◌+◌, ◌≤◌, List, Some, None, Option, slice_index_or}
+use Rattle.std.specs.Prelude.{ℕ, ◌≤◌, List, Some, None, Option, slice_index_or}
 use Rattle.table.specs.declared.records.Certificate.{Certificate}
 use Rattle.table.specs.declared.records.Place.{Place}
 use Rattle.table.specs.Places.{past}

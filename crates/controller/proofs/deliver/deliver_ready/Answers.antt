@@ -1,4 +1,4 @@
-use Rattle.std.proofs.Common.{◌≡◌, ◌≤◌, min, [], length, ap, subst, arith}
+use Rattle.std.proofs.Common.{◌≡◌, min, [], length, ap, subst, arith}
 use Rattle.std.proofs.lemmas.List.{length-take}
 use Rattle.protocol.specs.Delivery.{deliver_ready, begin}
 use Rattle.controller.specs.Agree.{Reached}

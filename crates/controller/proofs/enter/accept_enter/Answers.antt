@@ -1,4 +1,4 @@
-use Rattle.std.proofs.Common.{◌≡◌, length, ap, ◌∙◌, arith}
+use Rattle.std.proofs.Common.{length, ap, ◌∙◌, arith}
 use Rattle.dossier.specs.Walk.{checkpoint_group}
 use Rattle.controller.proofs.Chosen.{group_few, enter_made}
 use Rattle.controller.proofs.enter.accept_enter.Goals as goal

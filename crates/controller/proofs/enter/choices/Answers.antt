@@ -1,4 +1,4 @@
-use Rattle.std.proofs.Common.{◌≡◌, replicate, None, arith}
+use Rattle.std.proofs.Common.{replicate, None, arith}
 use Rattle.controller.proofs.Chosen.{choices_begin, choices_more, choices_end}
 use Rattle.controller.proofs.enter.choices.Goals as goal
 

@@ -1,4 +1,4 @@
-use Rattle.std.proofs.Common.{◌≡◌, [], ◌∷◌, map, length, set, sym, refl, ap, ◌∙◌, arith}
+use Rattle.std.proofs.Common.{[], ◌∷◌, map, length, set, sym, ap, ◌∙◌, arith}
 use Rattle.protocol.specs.Call.{unsealed}
 use Rattle.protocol.specs.Enter.{prepares_chosen}
 use Rattle.controller.specs.Agree.{written_at, said}

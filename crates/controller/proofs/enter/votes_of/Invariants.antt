@@ -1,4 +1,4 @@
-use Rattle.std.proofs.Common.{◌≡◌, ◌≤◌, map, length, take}
+use Rattle.std.proofs.Common.{◌≡◌, map, take}
 use Rattle.table.specs.Ballots.{listed}
 use Rattle.protocol.specs.Enter.{as_vote}
 use Rattle.controller.proofs.enter.votes_of.Given as goal

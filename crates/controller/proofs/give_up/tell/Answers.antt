@@ -1,4 +1,4 @@
-use Rattle.std.proofs.Common.{◌≡◌, length, ap, ◌∙◌, rules}
+use Rattle.std.proofs.Common.{◌∙◌, rules}
 use Rattle.protocol.specs.Call.{unsealed}
 use Rattle.controller.specs.Agree.{said}
 use Rattle.controller.proofs.Tells.{tell_made}

@@ -1,4 +1,4 @@
-use Rattle.std.proofs.Common.{◌≡◌, length, sym, ap, ◌∙◌, arith}
+use Rattle.std.proofs.Common.{length, sym, ap, ◌∙◌, arith}
 use Rattle.protocol.specs.Change.{prepares_for}
 use Rattle.controller.specs.Agree.{written_at}
 use Rattle.controller.proofs.Posts.{written_none}

@@ -1,8 +1,8 @@
-use Rattle.std.proofs.Common.{◌≡◌, [], sym, refl, ap, subst, arith}
+use Rattle.std.proofs.Common.{[], refl, ap, subst, arith}
 use Rattle.protocol.specs.declared.records.Core.{Core}
 use Rattle.controller.specs.declared.progress.Progress.{Progress}
 use Rattle.protocol.specs.State.{own}
-use Rattle.protocol.specs.Delivery.{deliver_one, deliver_ready, begin}
+use Rattle.protocol.specs.Delivery.{deliver_one, begin}
 use Rattle.protocol.specs.Prove.{prove_refusal}
 use Rattle.controller.specs.Agree.{Reached, no_progress}
 use Rattle.controller.proofs.Flows.{goes_on}

@@ -1,4 +1,4 @@
-use Rattle.std.proofs.Common.{◌≡◌, [], sym, refl, ap, subst, arith}
+use Rattle.std.proofs.Common.{[], sym, refl, ap, subst, arith}
 use Rattle.protocol.specs.declared.records.Core.{Core}
 use Rattle.controller.specs.declared.progress.Progress.{Progress}
 use Rattle.protocol.specs.Delivery.{deliver_ready, begin}

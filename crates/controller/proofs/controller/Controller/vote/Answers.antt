@@ -1,10 +1,10 @@
-use Rattle.std.proofs.Common.{◌≡◌, [], sym, refl, ap, subst, arith}
+use Rattle.std.proofs.Common.{[], sym, refl, ap, subst, arith}
 use Rattle.protocol.specs.declared.records.Core.{Core}
 use Rattle.controller.specs.declared.progress.Progress.{Progress}
 use Rattle.protocol.specs.State.{with_table}
 use Rattle.protocol.specs.Delivery.{deliver_ready, begin}
 use Rattle.protocol.specs.Vote.{vote_refusal, vote_table, vote_issued}
-use Rattle.controller.specs.Agree.{Voted, Reached, no_progress}
+use Rattle.controller.specs.Agree.{no_progress}
 use Rattle.controller.proofs.Kept.{Tame}
 use Rattle.controller.proofs.Flows.{goes_on}
 use Rattle.controller.proofs.Votings.{vote_room, vote_tame, vote_few, voted_reached}
