@@ -1,5 +1,5 @@
 -- A quorum of ballots for a digest is a quorum of controllers that cast one.
-use Rattle.std.proofs.Common.{◌≡◌, ℕ, suc, ◌+◌, ◌-◌, ◌<◌, ◌≤◌, Bool, true, false, cond, List, [], ◌∷◌, length, get_or, take, is_ok, Some, None, Ok, Err, Option, Result, sym, refl, ap, ◌∙◌, arith}
+use Rattle.std.proofs.Common.{◌≡◌, ℕ, suc, ◌+◌, ◌-◌, ◌≤◌, Bool, true, false, cond, List, [], ◌∷◌, get_or, take, is_ok, Some, None, Ok, Err, Option, Result, sym, refl, ap, ◌∙◌, arith}
 use Rattle.std.specs.List.{AllByRecursion as All}
 use Rattle.std.proofs.ByRecursion.{All-weaker, All-take}
 use Rattle.std.proofs.lemmas.List.{length-take-le}
@@ -9,7 +9,7 @@ use Rattle.wire.specs.Values.{same_digest}
 use Rattle.seal.proofs.Sameness.{same_digest_is}
 use Rattle.quorum.specs.Sets.{Quorum}
 use Rattle.quorum.proofs.Counting.{quorum_of}
-use Rattle.group.specs.Group.{grouped, Stood}
+use Rattle.group.specs.Group.{grouped}
 use Rattle.group.proofs.Groups.{stood}
 use Rattle.table.specs.declared.records.Ballot.{Ballot}
 use Rattle.table.specs.declared.records.Ballots.{Ballots}

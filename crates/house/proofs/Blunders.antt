@@ -1,5 +1,5 @@
 -- What goes wrong where a rule is done wrong.
-use Rattle.std.proofs.Common.{◌≡◌, refl}
+use Rattle.std.proofs.Common.{refl}
 use Rattle.wire.specs.Values.{same_digest}
 use Rattle.quorum.specs.Sizes.{faults, quorum}
 use Rattle.house.specs.Blunders.{BlundersShow}

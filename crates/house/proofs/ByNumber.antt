@@ -1,9 +1,9 @@
 -- The controllers of a house as a list: one called by its number, one new at the end, all of them numbered.
-use Rattle.std.proofs.Common.{◌≡◌, ℕ, ◌+◌, ◌<◌, ◌≤◌, Bool, true, false, not, ◌||◌, List, [], ◌∷◌, ◌++◌, length, get_or, set, Some, Ok, Err, Result, sym, ap, ◌∙◌, subst, ⊎_elim, arith, length-append, get_or-set_same, MatchResult}
+use Rattle.std.proofs.Common.{◌≡◌, ℕ, ◌+◌, ◌<◌, false, List, [], ◌∷◌, ◌++◌, length, get_or, set, Some, Ok, Err, Result, sym, ap, ◌∙◌, subst, ⊎_elim, arith, length-append, get_or-set_same, MatchResult}
 use Rattle.std.proofs.lemmas.Bool.Decides.{nat_tests}
 use Rattle.std.proofs.lemmas.Bool.{cases_lt}
 use Rattle.std.proofs.lemmas.List.{get_or_append_left, get_or_push}
-use Rattle.quorum.specs.Sizes.{allowed, no_house}
+use Rattle.quorum.specs.Sizes.{no_house}
 use Rattle.house.specs.declared.opening.OpenFault.{OpenFault}
 use Rattle.house.specs.declared.opening.OpenFault.TheVariants.{Refused, Memory}
 use Rattle.house.specs.Members.{Answered, Grown, Numbered}

@@ -1,13 +1,12 @@
 -- Offer, supply, prove and vote keep what holds of a controller.
-use Rattle.std.proofs.Common.{◌≡◌, ℕ, zero, suc, ◌+◌, ◌%◌, ◌<◌, ◌≤◌, Bool, true, false, cond, not, ◌&&◌, ◌||◌, eqb, ltb, leb, ◌⊎◌, List, [], ◌∷◌, ◌++◌, map, length, get_or, take, set, replicate, is_some, is_ok, Some, None, Option, unwrap_or, sym, refl, ap, ◌∙◌, subst, inl, inr, append-nil, arith}
+use Rattle.std.proofs.Common.{◌≡◌, ℕ, zero, suc, ◌+◌, ◌<◌, ◌≤◌, Bool, true, false, cond, not, ◌&&◌, ◌||◌, eqb, ltb, leb, ◌⊎◌, List, [], ◌∷◌, ◌++◌, map, length, get_or, take, set, replicate, is_some, is_ok, Some, None, Option, unwrap_or, sym, refl, ap, ◌∙◌, subst, inl, inr, append-nil, arith}
 use Rattle.std.specs.List.{AllByRecursion as All}
 use Rattle.std.proofs.lemmas.List.{get_or-set_same, get_or-set_other, set_past}
-use Rattle.std.proofs.lemmas.Bool.{or_parts, and_parts, eqb-true, eqb-false, ltb-false, leb-false, lt-ltb, not-false, cond-true, cond-false, cases_eq, cases_lt, false≢true}
+use Rattle.std.proofs.lemmas.Bool.{or_parts, and_parts, eqb-true, ltb-false, leb-false, lt-ltb, not-false, cases_eq, cases_lt, false≢true}
 use Rattle.wire.specs.declared.records.DigestValue.{DigestValue}
 use Rattle.wire.specs.declared.records.Statement.{Statement}
 use Rattle.wire.specs.declared.records.Sealed.{Sealed}
 use Rattle.wire.specs.declared.records.Request.{Request}
-use Rattle.wire.specs.declared.records.Batch.{Batch}
 use Rattle.wire.specs.Values.{value_of, same_digest, request_statement}
 use Rattle.wire.specs.Frames.{requests_of, stored}
 use Rattle.wire.proofs.Exact.{stored_back}
@@ -17,12 +16,11 @@ use Rattle.protocol.specs.Leaders.{in_bucket}
 use Rattle.seal.specs.Records.{signer_of, none as none-record}
 use Rattle.seal.proofs.Sameness.{same_digest_is, same_digest_self}
 use Rattle.quorum.specs.Sizes.{quorum}
-use Rattle.quorum.specs.Sets.{Quorum, Backed}
+use Rattle.quorum.specs.Sets.{Quorum}
 use Rattle.quorum.proofs.Counting.{quorum_at}
-use Rattle.group.specs.Group.{exactly, list_fault, commits_fault, Whole}
+use Rattle.group.specs.Group.{exactly, list_fault, commits_fault}
 use Rattle.group.proofs.Groups.{whole}
 use Rattle.table.specs.declared.records.Ballot.{Ballot}
-use Rattle.table.specs.declared.records.Ballots.{Ballots}
 use Rattle.table.specs.declared.records.Place.{Place}
 use Rattle.table.specs.declared.records.Table.{Table}
 use Rattle.table.specs.declared.records.Votes.{Votes}
@@ -33,8 +31,8 @@ use Rattle.protocol.specs.declared.records.Core.{Core}
 use Rattle.protocol.specs.declared.refusal.Refusal.{Refusal}
 use Rattle.protocol.specs.State.{size, own, enough, with_table}
 use Rattle.protocol.specs.Refusals.{first_of, at_record}
-use Rattle.protocol.specs.Delivery.{Flow, begin, deliver_one, deliver_ready}
-use Rattle.protocol.specs.Call.{Step, Effect, called, delivering}
+use Rattle.protocol.specs.Delivery.{begin, deliver_ready}
+use Rattle.protocol.specs.Call.{called}
 use Rattle.protocol.specs.Offer as Offer
 use Rattle.protocol.specs.Supply as Supply
 use Rattle.protocol.specs.Prove as Prove

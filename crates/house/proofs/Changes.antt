@@ -1,5 +1,5 @@
 -- The calls that change the epoch keep what holds of a controller: giving up, entering by a dossier, and taking a turn.
-use Rattle.std.proofs.Common.{◌≡◌, ℕ, zero, suc, ◌+◌, ◌-◌, ◌<◌, ◌≤◌, Bool, true, false, cond, not, ◌||◌, eqb, ltb, leb, ◌⊎◌, List, [], ◌∷◌, ◌++◌, get_or, replicate, is_ok, Some, None, Ok, Err, Option, Result, sym, refl, ap, ◌∙◌, subst, inl, inr, append-nil, arith}
+use Rattle.std.proofs.Common.{◌≡◌, ℕ, zero, suc, ◌+◌, ◌-◌, ◌<◌, ◌≤◌, Bool, true, false, cond, eqb, ltb, leb, ◌⊎◌, List, [], ◌++◌, get_or, replicate, is_ok, Some, None, Ok, Err, Option, Result, sym, refl, ap, ◌∙◌, subst, inl, inr, append-nil, arith}
 use Rattle.std.specs.List.{AllByRecursion as All}
 use Rattle.std.proofs.lemmas.Bool.{cases_lt, cond-true, cond_both, or_parts, leb-false, ltb-false, true≢false, false≢true, both_ways}
 use Rattle.wire.specs.declared.records.DigestValue.{DigestValue}
@@ -19,14 +19,14 @@ use Rattle.table.specs.Places.{past, proposes, kept_batch, entered as place-ente
 use Rattle.table.specs.Window.{in_window, place_at, move_to, enter_all}
 use Rattle.protocol.specs.declared.records.Core.{Core}
 use Rattle.protocol.specs.declared.refusal.Refusal.{Refusal}
-use Rattle.protocol.specs.declared.refusal.Refusal.TheVariants.{Room, Kind, Signer, Epoch, Number, Authority, Seal, Record, Unfinished, LastEpoch}
+use Rattle.protocol.specs.declared.refusal.Refusal.TheVariants.{Number, Record}
 use Rattle.protocol.specs.Leaders.{everyone}
-use Rattle.protocol.specs.Call.{Effect, called, cramped}
-use Rattle.protocol.specs.Change.{held_for, give_up_refusal, give_up_effect, gave_up, last_epoch, undelivered, after_last, joined, turn_checks, turn_refusal, turn_effect, took_turn}
+use Rattle.protocol.specs.Call.{Effect, called}
+use Rattle.protocol.specs.Change.{held_for, give_up_refusal, give_up_effect, gave_up, undelivered, after_last, joined, turn_checks, turn_refusal, turn_effect, took_turn}
 use Rattle.protocol.specs.Refusals.{first_of}
-use Rattle.protocol.specs.State.{size, enough}
+use Rattle.protocol.specs.State.{enough}
 use Rattle.protocol.specs.Offer.{prepare_of}
-use Rattle.protocol.specs.Enter.{stale, no_set_of, terms_of, opened, enter_checks, enter_refusal, base_proof, choices, enter_effect, enter_walked, entered}
+use Rattle.protocol.specs.Enter.{stale, terms_of, opened, enter_checks, enter_refusal, base_proof, choices, enter_effect, enter_walked, entered}
 use Rattle.quorum.specs.Sizes.{quorum}
 use Rattle.quorum.specs.Sets.{Backed}
 use Rattle.seal.specs.Records.{signer_of}

@@ -1,5 +1,5 @@
 -- What an accepted call has passed.
-use Rattle.std.proofs.Common.{◌≡◌, ℕ, Bool, true, false, cond, List, [], ◌∷◌, is_ok, Some, None, Option, sym, refl, ap, ◌∙◌, arith}
+use Rattle.std.proofs.Common.{◌≡◌, ℕ, Bool, true, false, cond, List, [], ◌∷◌, is_ok, Some, None, Option, refl, ap}
 use Rattle.std.specs.List.{AllByRecursion as All}
 use Rattle.wire.specs.declared.records.Sealed.{Sealed}
 use Rattle.protocol.specs.declared.records.Core.{Core}

@@ -1,5 +1,5 @@
 -- The premises hold of a run that delivers.
-use Rattle.std.proofs.Common.{◌≡◌, ℕ, zero, suc, ◌+◌, ◌<◌, ◌≤◌, Bool, true, false, not, ◌&&◌, ◌||◌, eqb, leb, ◌⊎◌, List, [], ◌∷◌, sym, refl, ◌∙◌, inl, inr, arith, lit≤}
+use Rattle.std.proofs.Common.{◌≡◌, ℕ, zero, suc, Bool, true, false, not, ◌&&◌, ◌||◌, eqb, leb, ◌⊎◌, List, [], ◌∷◌, sym, refl, ◌∙◌, inl, inr, arith, lit≤}
 use Rattle.std.specs.List.{AllByRecursion as All}
 use Rattle.std.proofs.lemmas.Bool.{leb-true, and_parts, and_from, eq-eqb, le-leb, false≢true}
 use Rattle.wire.specs.declared.records.Statement.{Statement}
@@ -7,7 +7,6 @@ use Rattle.wire.specs.declared.records.Sealed.{Sealed}
 use Rattle.wire.specs.declared.records.Request.{Request}
 use Rattle.wire.specs.Values.{same_digest}
 use Rattle.quorum.specs.Sizes.{allowed, faults, quorum}
-use Rattle.quorum.specs.Sets.{count}
 use Rattle.seal.specs.Records.{same_statement}
 use Rattle.seal.proofs.Sameness.{same_statement_is}
 use Rattle.group.specs.Group.{grouped}
@@ -17,7 +16,6 @@ use Rattle.dossier.specs.Walk.{numbers}
 use Rattle.protocol.specs.Delivery.{deliver_one, deliver_ready}
 use Rattle.protocol.specs.Enter.{choices}
 use Rattle.house.specs.Runs
-use Rattle.house.specs.Law.{log, upto}
 use Rattle.house.specs.Example
 
 abbrev node : ℕ → List Runs.Event → Runs.Node ℕ

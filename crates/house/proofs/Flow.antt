@@ -1,17 +1,16 @@
 -- Delivery keeps what holds of a controller.
-use Rattle.std.proofs.Common.{◌≡◌, ℕ, zero, suc, ◌+◌, ◌%◌, ◌<◌, ◌≤◌, Bool, true, false, cond, eqb, ◌⊎◌, List, [], ◌∷◌, ◌++◌, length, get_or, Some, None, Option, sym, refl, ap, ◌∙◌, subst, inl, inr, append_assoc, append-nil, arith}
+use Rattle.std.proofs.Common.{◌≡◌, ℕ, zero, suc, ◌+◌, ◌%◌, ◌<◌, Bool, true, false, cond, eqb, ◌⊎◌, List, [], ◌∷◌, ◌++◌, length, get_or, Some, None, Option, sym, refl, ap, ◌∙◌, subst, inl, inr, append_assoc, arith}
 use Rattle.std.specs.List.{flat_map}
 use Rattle.std.proofs.lemmas.List.{flat_map_more, length-append, get_or_append_left, get_or_at}
-use Rattle.std.proofs.lemmas.Bool.{cases_eq, cases_lt}
+use Rattle.std.proofs.lemmas.Bool.{cases_eq}
 use Rattle.wire.specs.declared.records.DigestValue.{DigestValue}
 use Rattle.wire.specs.declared.records.Statement.{Statement}
 use Rattle.wire.specs.declared.records.Request.{Request}
 use Rattle.wire.specs.declared.records.Batch.{Batch}
 use Rattle.wire.specs.Frames.{requests_of}
 use Rattle.quorum.specs.Sizes.{quorum}
-use Rattle.quorum.specs.Sets.{Quorum, Backed}
+use Rattle.quorum.specs.Sets.{Quorum}
 use Rattle.table.specs.declared.records.Ballot.{Ballot}
-use Rattle.table.specs.declared.records.Place.{Place}
 use Rattle.table.specs.declared.records.Table.{Table}
 use Rattle.table.specs.Ballots.{backed}
 use Rattle.table.specs.Window.{in_window, place_at}
@@ -23,11 +22,11 @@ use Rattle.protocol.specs.State.{size, own, enough}
 use Rattle.protocol.specs.Delivery.{Flow, known, committed_batch, ready, checkpoint_of, onto, deliver_one, deliver_ready}
 use Rattle.dossier.specs.Laws.{prepare_by}
 use Rattle.house.specs.Runs.{Node, Has}
-use Rattle.house.proofs.Sketch.{Sketch, Same, Inv, commit_by}
+use Rattle.house.proofs.Sketch.{Sketch, Same, commit_by}
 use Rattle.house.proofs.Tables.{filled_of, sketch_of, has_append, has_left, has_right}
 use Rattle.house.proofs.Local.{same_inv}
 use Rattle.house.proofs.Backers.{backed_quorum}
-use Rattle.house.proofs.Full.{Full, BatchOk, PlaceOk, DeliveredOk, Heard, Origin}
+use Rattle.house.proofs.Full.{Full, BatchOk, DeliveredOk, Origin}
 use Rattle.house.proofs.Options.{none_is_some, some_is}
 
 pub same_sketch : (S : Sketch) → Same S S

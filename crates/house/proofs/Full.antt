@@ -1,5 +1,5 @@
 -- What holds of an honest controller with its application, log and issued statements after any run.
-use Rattle.std.proofs.Common.{◌≡◌, ℕ, ◌+◌, ◌<◌, ◌≤◌, Bool, true, false, cond, ◌⊎◌, List, [], ◌∷◌, ◌++◌, length, get_or, Some, None, Option, sym, refl, ap, ◌∙◌, subst, append-nil}
+use Rattle.std.proofs.Common.{◌≡◌, ℕ, ◌+◌, ◌<◌, ◌≤◌, Bool, true, false, ◌⊎◌, List, [], ◌++◌, length, get_or, Some, None, append-nil}
 use Rattle.std.specs.List.{flat_map, AllByRecursion as All}
 use Rattle.wire.specs.declared.records.DigestValue.{DigestValue}
 use Rattle.wire.specs.declared.records.Statement.{Statement}
@@ -15,12 +15,11 @@ use Rattle.table.specs.declared.records.Place.{Place}
 use Rattle.table.specs.Window.{in_window, place_at}
 use Rattle.window.specs.Clients.{all_fresh}
 use Rattle.window.specs.Deliveries.{delivered}
-use Rattle.protocol.specs.declared.records.Core.{Core}
 use Rattle.protocol.specs.declared.refusal.Refusal.{Refusal}
 use Rattle.protocol.specs.Call.{Step, Effect, called}
 use Rattle.dossier.specs.Laws.{prepare_by}
 use Rattle.house.specs.Runs.{Node, Has}
-use Rattle.house.proofs.Sketch.{Sketch, Inv, commit_by}
+use Rattle.house.proofs.Sketch.{Inv, commit_by}
 use Rattle.house.proofs.Tables.{Long, filled_of, sketch_of}
 
 -- a statement of an honest signer was issued

@@ -1,15 +1,14 @@
 -- From what holds of each honest controller by itself to the house: a quorum of commits settles a number.
-use Rattle.std.proofs.Common.{◌≡◌, ℕ, zero, suc, ◌+◌, ◌<◌, ◌≤◌, Bool, true, false, ◌&&◌, leb, ◌⊎◌, List, sym, refl, ap, ◌∙◌, subst, inl, inr, arith}
-use Rattle.std.proofs.lemmas.Bool.{cases_order, cases_lt}
+use Rattle.std.proofs.Common.{◌≡◌, ℕ, zero, suc, ◌+◌, ◌<◌, ◌≤◌, Bool, true, ◌&&◌, leb, ◌⊎◌, List, sym, refl, ◌∙◌, subst, inl, inr, arith}
+use Rattle.std.proofs.lemmas.Bool.{cases_order}
 use Rattle.wire.specs.declared.records.DigestValue.{DigestValue}
 use Rattle.wire.specs.declared.records.Statement.{Statement}
-use Rattle.quorum.specs.Sets.{Backed, Trusty, Shared}
+use Rattle.quorum.specs.Sets.{Backed, Trusty}
 use Rattle.quorum.proofs.Counting.{meet}
-use Rattle.dossier.specs.declared.parts.Opened.{Opened}
 use Rattle.dossier.specs.Walk.{top}
-use Rattle.dossier.specs.Laws.{prepare_by, stable_by, held_by, highest_of, digest_of, Said, Holds, Sound}
+use Rattle.dossier.specs.Laws.{prepare_by, stable_by, held_by, highest_of, digest_of, Said}
 use Rattle.house.specs.Runs.{Has}
-use Rattle.house.proofs.Sketch.{Sketch, Seen, Crossed, Inv, commit_by}
+use Rattle.house.proofs.Sketch.{Sketch, Seen, Inv, commit_by}
 
 -- the kinds of statements that controllers issue: prepare, commit, checkpoint, stable, held
 abbrev pub is_vote : ℕ → Bool

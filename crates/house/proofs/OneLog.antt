@@ -1,5 +1,5 @@
 -- There is one log.
-use Rattle.std.proofs.Common.{◌≡◌, ℕ, suc, ◌+◌, ◌<◌, ◌≤◌, Bool, true, false, not, ◌⊎◌, List, [], ◌∷◌, ◌++◌, length, get_or, sym, refl, ap, ◌∙◌, subst, inl, inr, ⊎_elim, arith}
+use Rattle.std.proofs.Common.{◌≡◌, ℕ, suc, ◌+◌, ◌<◌, ◌≤◌, Bool, true, not, ◌⊎◌, List, [], ◌∷◌, ◌++◌, length, get_or, sym, refl, ap, ◌∙◌, subst, inl, inr, ⊎_elim, arith}
 use Rattle.std.specs.List.{flat_map, AllByRecursion as All}
 use Rattle.std.proofs.lemmas.List.{ext_get_or}
 use Rattle.std.proofs.lemmas.Bool.{false≢true}
@@ -17,11 +17,10 @@ use Rattle.window.specs.Deliveries.{delivered}
 use Rattle.window.specs.Histories.{served, Stands}
 use Rattle.window.proofs.Serving.{served_once, served_stands, fresh_full}
 use Rattle.house.specs.Runs
-use Rattle.house.specs.Law.{OneLog, OneLogHolds, log, delivered_requests}
+use Rattle.house.specs.Law.{OneLog, OneLogHolds}
 use Rattle.house.proofs.Tables.{sketch_of}
-use Rattle.house.proofs.Sketch.{Inv, commit_by}
 use Rattle.house.proofs.Global.{is_vote, Locals, one_digest, offered}
-use Rattle.house.proofs.Full.{BatchOk, DeliveredOk, OfferedOk, Full}
+use Rattle.house.proofs.Full.{DeliveredOk, OfferedOk, Full}
 use Rattle.house.proofs.Whole.{AskedBefore, handed_more, issued_more, local_full, counted}
 
 -- a request of a delivered list stands in one of its batches

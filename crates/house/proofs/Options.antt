@@ -1,5 +1,5 @@
 -- What is there and what is not.
-use Rattle.std.proofs.Common.{◌≡◌, ℕ, true, is_some, Some, None, Option, ap, arith}
+use Rattle.std.proofs.Common.{◌≡◌, ℕ, Some, None, Option, arith}
 
 pub none_is_some : {A : Type 0} (x : A) → ◌≡◌ {A = Option A} None (Some x) → ⊥
 none_is_some x e = let z : ◌≡◌ {A = ℕ} 0 1 = cc in omega arith

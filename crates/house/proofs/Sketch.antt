@@ -2,7 +2,6 @@
 use Rattle.std.proofs.Common.{◌≡◌, ℕ, ◌+◌, ◌<◌, ◌≤◌, Bool, true, false, ◌⊎◌, List, is_some, Some, None, Option}
 use Rattle.wire.specs.declared.records.DigestValue.{DigestValue}
 use Rattle.wire.specs.declared.records.Statement.{Statement}
-use Rattle.dossier.specs.declared.parts.Terms.{Terms}
 use Rattle.dossier.specs.declared.parts.Opened.{Opened}
 use Rattle.dossier.specs.Walk.{top}
 use Rattle.dossier.specs.Laws.{prepare_by, stable_by, held_by, digest_of, Sound}

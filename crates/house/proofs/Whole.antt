@@ -1,23 +1,21 @@
 -- Over a whole run: what holds of each honest controller at any moment.
-use Rattle.std.proofs.Common.{◌≡◌, ℕ, ◌+◌, ◌<◌, ◌≤◌, Bool, true, false, cond, ◌&&◌, eqb, leb, ◌⊎◌, List, [], ◌∷◌, ◌++◌, length, get_or, is_ok, Some, None, Option, sym, refl, ap, ◌∙◌, subst, inl, inr, arith, lit≤}
+use Rattle.std.proofs.Common.{◌≡◌, ℕ, ◌+◌, Bool, true, false, cond, eqb, leb, List, [], ◌∷◌, length, get_or, is_ok, Some, None, Option, sym, refl, ap, ◌∙◌, subst, inl, inr, arith, lit≤}
 use Rattle.std.specs.List.{AllByRecursion as All}
 use Rattle.std.proofs.ByRecursion.{All-weaker}
 use Rattle.std.proofs.lemmas.List.{length-append}
-use Rattle.std.proofs.lemmas.Bool.{eqb-true, and_parts, leb-true, cond_both, false≢true}
+use Rattle.std.proofs.lemmas.Bool.{eqb-true, and_parts, leb-true, cond_both}
 use Rattle.wire.specs.declared.records.DigestValue.{DigestValue}
 use Rattle.wire.specs.declared.records.Statement.{Statement}
 use Rattle.wire.specs.declared.records.Sealed.{Sealed}
 use Rattle.wire.specs.declared.records.Request.{Request}
-use Rattle.seal.specs.Records.{signer_of}
 use Rattle.quorum.specs.declared.house.House.{House}
 use Rattle.quorum.specs.Sizes.{quorum}
 use Rattle.table.specs.declared.records.Ballot.{Ballot}
 use Rattle.table.specs.declared.records.Place.{Place}
 use Rattle.table.specs.Window.{in_window, new_table, place_at}
-use Rattle.table.specs.Places.{empty_place}
 use Rattle.protocol.specs.declared.records.Core.{Core}
 use Rattle.protocol.specs.declared.refusal.Refusal.{Refusal}
-use Rattle.protocol.specs.Call.{Step, Effect, called}
+use Rattle.protocol.specs.Call.{Effect, called}
 use Rattle.protocol.specs.Offer as Offer
 use Rattle.protocol.specs.Vote as Vote
 use Rattle.protocol.specs.Supply as Supply
@@ -28,7 +26,7 @@ use Rattle.house.specs.Runs
 use Rattle.house.proofs.Tables
 use Rattle.house.proofs.Local.{start_inv}
 use Rattle.house.proofs.Global.{is_vote}
-use Rattle.house.proofs.Full.{Full, grown}
+use Rattle.house.proofs.Full.{Full}
 use Rattle.house.proofs.Calls
 use Rattle.house.proofs.Calls.{none_of_none}
 use Rattle.house.proofs.Changes

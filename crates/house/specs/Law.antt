@@ -10,7 +10,7 @@ use Rattle.quorum.specs.Sets.{count}
 use Rattle.window.specs.Clients.{all_fresh}
 use Rattle.window.specs.Histories.{served}
 use Rattle.window.specs.Laws.{Apart}
-use Rattle.house.specs.Runs.{Event, Node, Has, Asked, node, delivered_upto, SealsHold, DigestsDiffer, Moment}
+use Rattle.house.specs.Runs.{Event, Has, Asked, node, delivered_upto, SealsHold, DigestsDiffer, Moment}
 
 module _ {X : Type 0} (value : List ℕ → DigestValue) (next : X → ℕ → ℕ → ℕ → X) (marked : X → ℕ) (start : X) (houses : ℕ → House) where
   -- the batches that controller k has delivered after a run, the first first

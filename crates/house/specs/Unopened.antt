@@ -1,7 +1,6 @@
 -- Why a house is not opened.
 use Rattle.std.specs.Prelude.{◌≡◌, ℕ, true, false}
 use Rattle.quorum.specs.Sizes.{no_house}
-use Rattle.protocol.specs.declared.refusal.Refusal.{Refusal}
 use Rattle.protocol.specs.declared.refusal.Refusal.TheVariants.{House}
 use Rattle.house.specs.declared.opening.OpenFault.{OpenFault}
 use Rattle.house.specs.declared.opening.OpenFault.TheVariants.{Refused, Memory}
