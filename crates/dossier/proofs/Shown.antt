@@ -3,7 +3,7 @@ use Rattle.std.proofs.Common.{◌≡◌, ℕ, zero, suc, ◌+◌, ◌-◌, ◌<�
 use Rattle.std.proofs.lemmas.Bool.{and_parts, eqb-true, eqb-false, ltb-true, ltb-false, cases_lt, cond_both, both_ways, cases_Bool, true≢false, and_cases, or_parts, or_cases, eq-eqb, not-true}
 use Rattle.std.proofs.lemmas.List.{get_or-take, get_or-drop, length-take-le, append_assoc, append-nil}
 use Rattle.std.proofs.ByRecursion.{All-get_or}
-use Rattle.std.specs.List.{AllByRecursion as All}
+use Rattle.std.specs.List.{AllByRecursion}
 use Rattle.wire.specs.declared.records.DigestValue.{DigestValue}
 use Rattle.wire.specs.declared.records.Statement.{Statement}
 use Rattle.wire.specs.Values.{value_of, same_digest}
@@ -147,7 +147,7 @@ module _ (accepts : Statement → ℕ → Bool) (terms : Terms) (rs : List Seale
     keeps : (e : ℕ) (d : DigestValue) → Agrees e d c → Agrees e d g.tally
     empty : (c.epoch ≡ 0 → c.digest ≡ value_of 0) → g.tally.epoch ≡ 0 → g.tally.digest ≡ value_of 0
     below : c.epoch < terms.epoch → g.tally.epoch < terms.epoch
-    each : All (Answered s g.tally) ts
+    each : AllByRecursion (Answered s g.tally) ts
 
   pub held_below : (s signer : ℕ) (st : Statement) → held_fits terms.epoch s signer st ≡ true → st.held < terms.epoch
   held_below s signer st h =
@@ -246,7 +246,7 @@ module _ (accepts : Statement → ℕ → Bool) (terms : Terms) (rs : List Seale
 
   -- a claim: who is asked has answered, below the new epoch, and q prepares stand behind it
   pub record Claimed (ts : List Sealed) (s : ℕ) (c : Claim) : Type 0 where
-    pub each : All (Answered s (settled c)) ts
+    pub each : AllByRecursion (Answered s (settled c)) ts
     pub empty : c.epoch ≡ 0 → c.digest ≡ value_of 0
     pub below : 1 ≤ terms.epoch → c.epoch < terms.epoch
     pub backed : 1 ≤ c.epoch → (p : ℕ) × (p' : ℕ) × Stood signer_of (exactly accepts 3 c.epoch s c.digest) terms.n terms.q p 0 (drop p rs) p'
@@ -268,14 +268,14 @@ module _ (accepts : Statement → ℕ → Bool) (terms : Terms) (rs : List Seale
       go g w calm-is (inl h) =
           subst (Shown ts s place) (ok_is _ f h.1) (record {
             covered = w.covered;
-            claimed = record { each = subst (λ z. All (Answered s z) ts) (λ i. record { epoch = g.tally.epoch; digest = g.tally.digest; clash = calm-is i }) w.each; empty = w.empty (λ _. refl); below = λ k. w.below (omega arith); backed = λ k. absurd (omega (arith, eqb-true _ _ h.0)) };
+            claimed = record { each = subst (λ z. AllByRecursion (Answered s z) ts) (λ i. record { epoch = g.tally.epoch; digest = g.tally.digest; clash = calm-is i }) w.each; empty = w.empty (λ _. refl); below = λ k. w.below (omega arith); backed = λ k. absurd (omega (arith, eqb-true _ _ h.0)) };
           })
       go g w calm-is (inr h) =
           let b = through _ _ f h.1 in
           let st = stood signer_of (exactly accepts 3 g.tally.epoch s g.tally.digest) terms.n terms.q g.next 0 (drop g.next rs) b.value b.first in
           subst (Shown ts s place) (ok_is _ f b.second) (record {
             covered = covers place g.next b.value w.covered (group_covers (exactly accepts 3 g.tally.epoch s g.tally.digest) terms.q g.next b.value (λ r k. (exact_is accepts 3 _ s _ r k).1) st);
-            claimed = record { each = subst (λ z. All (Answered s z) ts) (λ i. record { epoch = g.tally.epoch; digest = g.tally.digest; clash = calm-is i }) w.each; empty = w.empty (λ _. refl); below = λ k. w.below (omega arith); backed = λ k. (g.next, b.value, st) };
+            claimed = record { each = subst (λ z. AllByRecursion (Answered s z) ts) (λ i. record { epoch = g.tally.epoch; digest = g.tally.digest; clash = calm-is i }) w.each; empty = w.empty (λ _. refl); below = λ k. w.below (omega arith); backed = λ k. (g.next, b.value, st) };
           })
 
   -- the claims of the numbers from s on

@@ -3,7 +3,7 @@ use Rattle.std.proofs.Common.{◌≡◌, ℕ, zero, suc, ◌+◌, ◌-◌, ◌%�
 use Rattle.std.proofs.lemmas.Bool.{and_parts, and_from, eqb-true, ne_eqb, ltb-true, leb-true, le-leb, lt-ltb, cases_lt, cases_Bool, cond_both, cond-true, cond-false}
 use Rattle.std.proofs.lemmas.List.{get_or_past, length-take-le}
 use Rattle.std.proofs.ByRecursion.{All-get_or, All-from_get_or, All-take, All-drop, All-weaker, all-has, all_has_itself}
-use Rattle.std.specs.List.{ContainsAt as Has, AllByRecursion as All}
+use Rattle.std.specs.List.{ContainsAt as Has, AllByRecursion}
 use Rattle.wire.specs.declared.records.DigestValue.{DigestValue}
 use Rattle.wire.specs.declared.records.Statement.{Statement}
 use Rattle.wire.specs.declared.records.Sealed.{Sealed}
@@ -43,7 +43,7 @@ held_is epoch s signer st h =
     λ i. record { kind = eqb-true _ _ h₀.0 i; signer = eqb-true _ _ h₁.0 i; epoch = eqb-true _ _ h₂.0 i; number = eqb-true _ _ h₃.0 i; held = st.held; digest = st.digest }
 
 -- the base is a multiple of 16
-larger_aligned : (b : ℕ) (ts : List Sealed) → b % 16 ≡ 0 → All (λ t. t.statement.number % 16 ≡ 0) ts → fold larger b ts % 16 ≡ 0
+larger_aligned : (b : ℕ) (ts : List Sealed) → b % 16 ≡ 0 → AllByRecursion (λ t. t.statement.number % 16 ≡ 0) ts → fold larger b ts % 16 ≡ 0
 larger_aligned b [] h a = h
 larger_aligned b (t ∷ ts) h a = larger_aligned (larger b t) ts (higher (cases_lt b t.statement.number)) a.1
   where
@@ -151,11 +151,11 @@ larger_keeps : (b : ℕ) (ts : List Sealed) → b ≤ fold larger b ts
 larger_keeps b [] = omega arith
 larger_keeps b (t ∷ ts) = omega (arith, larger_keeps (larger b t) ts)
 
-larger_covers : (b : ℕ) (ts : List Sealed) → All (λ t. t.statement.number ≤ fold larger b ts) ts
+larger_covers : (b : ℕ) (ts : List Sealed) → AllByRecursion (λ t. t.statement.number ≤ fold larger b ts) ts
 larger_covers b [] = tt
 larger_covers b (t ∷ ts) = (omega (arith, larger_keeps (larger b t) ts), larger_covers (larger b t) ts)
 
-all_both : {X : Type 0} (P Q : X → Type 0) (xs : List X) → All P xs → All Q xs → All (λ x. P x × Q x) xs
+all_both : {X : Type 0} (P Q : X → Type 0) (xs : List X) → AllByRecursion P xs → AllByRecursion Q xs → AllByRecursion (λ x. P x × Q x) xs
 all_both P Q [] a b = tt
 all_both P Q (x ∷ xs) a b = ((a.0, b.0), all_both P Q xs a.1 b.1)
 
@@ -167,7 +167,7 @@ module _ (accepts : Statement → ℕ → Bool) (terms : Terms) (honest : ℕ �
   C s = get_or o.claims (s - o.base - 1) no_claim
 
   -- a group of which each honest signer issued its record
-  issued_group : (kind e s : ℕ) (d : DigestValue) (p p' : ℕ) → All Fair rs → Stood signer_of (exactly accepts kind e s d) terms.n terms.q p 0 (drop p rs) p'
+  issued_group : (kind e s : ℕ) (d : DigestValue) (p p' : ℕ) → AllByRecursion Fair rs → Stood signer_of (exactly accepts kind e s d) terms.n terms.q p 0 (drop p rs) p'
       → Backed terms.n terms.q honest (λ i. Issued (record { kind = kind; signer = i; epoch = e; number = s; held = 0; digest = d }))
   issued_group kind e s d p p' fair st =
       let ps : List Sealed = take terms.q (drop p rs) in
@@ -177,7 +177,7 @@ module _ (accepts : Statement → ℕ → Bool) (terms : Terms) (honest : ℕ �
       one : (r : Sealed) → exactly accepts kind e s d r ≡ true → Fair r → honest (signer_of r) ≡ true → Issued (record { kind = kind; signer = signer_of r; epoch = e; number = s; held = 0; digest = d })
       one r k f hon = let x = exact_is accepts kind e s d r k in subst Issued x.0 (f x.1 hon)
 
-  module _ (fair : All Fair rs) (w : Parts accepts terms rs o) (k : Counted accepts terms rs (take terms.q rs) 32 (o.base + 1) w.start [] (record { claims = o.claims; next = w.end })) where
+  module _ (fair : AllByRecursion Fair rs) (w : Parts accepts terms rs o) (k : Counted accepts terms rs (take terms.q rs) 32 (o.base + 1) w.start [] (record { claims = o.claims; next = w.end })) where
     long : length o.claims ≡ 32
     long = ap length k.is ∙ k.size
 

@@ -3,7 +3,7 @@ use Rattle.std.proofs.Common.{◌≡◌, ℕ, zero, suc, ◌+◌, ◌-◌, ◌%�
 use Rattle.std.proofs.lemmas.List.{at_drop_more, take_more_set, take_all, drop_all}
 use Rattle.std.proofs.lemmas.Bool.{cond-true, cond-false, and_parts, leb-true, cases_lt}
 use Rattle.std.proofs.ByRecursion.{All-weaker}
-use Rattle.std.specs.List.{AllByRecursion as All}
+use Rattle.std.specs.List.{AllByRecursion}
 use Rattle.group.specs.Group.{grouped}
 use Rattle.seal.specs.Records.{none, signer_of}
 use Rattle.group.proofs.Groups.{stood}
@@ -77,7 +77,7 @@ module _ (accepts : Statement → ℕ → Bool) (terms : Terms) (rs ts : List Se
       ∙ sym (more (32 - k) (s + k) place (take k cs) (omega arith) ∙ ap (λ o. onward o (λ f. numbers accepts terms rs ts (32 - k - 1) (s + k + 1) f.next (take k cs ++ f.claim ∷ []))) (sym e ∙ g))
 
 -- no stable number passes a bound that each keeps
-pub largest_below : (m b : ℕ) (ts : List Sealed) → b ≤ m → All (λ t. t.statement.number ≤ m) ts → fold larger b ts ≤ m
+pub largest_below : (m b : ℕ) (ts : List Sealed) → b ≤ m → AllByRecursion (λ t. t.statement.number ≤ m) ts → fold larger b ts ≤ m
 largest_below m b [] h a = h
 largest_below m b (t ∷ ts) h a = largest_below m (larger b t) ts (omega (arith, a.0)) a.1
 

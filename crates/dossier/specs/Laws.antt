@@ -1,6 +1,6 @@
 -- What an accepted dossier shows.
 use Rattle.std.specs.Prelude.{◌≡◌, ℕ, ◌+◌, ◌-◌, ◌%◌, ◌<◌, ◌≤◌, Bool, true, ◌⊎◌, List, length, Some, Ok, Err, slice_index_or}
-use Rattle.std.specs.List.{AllByRecursion as All}
+use Rattle.std.specs.List.{AllByRecursion}
 use Rattle.wire.specs.declared.records.DigestValue.{DigestValue}
 use Rattle.wire.specs.declared.records.Statement.{Statement}
 use Rattle.wire.specs.declared.records.Sealed.{Sealed}
@@ -71,13 +71,13 @@ pub record Sound (terms : Terms) (honest : ℕ → Bool) (Issued : Statement →
 
 -- among the records handed in, each under an honest name that the checker accepts was issued
 abbrev pub SealsHold : (Statement → ℕ → Bool) → (ℕ → Bool) → (Statement → Type 0) → List Sealed → Type 0
-SealsHold accepts honest Issued rs = All (λ r. Genuine accepts r → honest (signer_of r) ≡ true → Issued r.statement) rs
+SealsHold accepts honest Issued rs = AllByRecursion (λ r. Genuine accepts r → honest (signer_of r) ≡ true → Issued r.statement) rs
 
 -- THE LAWS
 
 -- the checker accepts every record of an accepted dossier
 abbrev pub AllAccepted : Type 0
-AllAccepted = (accepts : Statement → ℕ → Bool) (terms : Terms) (rs : List Sealed) (o : Opened) → walked accepts terms rs ≡ Ok o → All (Genuine accepts) rs
+AllAccepted = (accepts : Statement → ℕ → Bool) (terms : Terms) (rs : List Sealed) (o : Opened) → walked accepts terms rs ≡ Ok o → AllByRecursion (Genuine accepts) rs
 
 -- an accepted dossier is sound
 abbrev pub DossierSound : Type 0
@@ -94,5 +94,5 @@ pub record Admitted (accepts : Statement → ℕ → Bool) (terms : Terms) (rs :
   pub low : o.base ≤ 1000000000000
   pub aligned : o.base % 16 ≡ 0
   pub marks : 0 < o.base → Whole signer_of (exactly accepts 5 0 o.base o.mark) terms.n terms.q (checkpoint_group terms.q rs o)
-  pub accepted : All (Genuine accepts) rs
+  pub accepted : AllByRecursion (Genuine accepts) rs
   pub sound : (honest : ℕ → Bool) (issued : Statement → Bool) → SealsHold accepts honest (λ st. issued st ≡ true) rs → Sound terms honest (λ st. issued st ≡ true) o

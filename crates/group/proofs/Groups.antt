@@ -1,6 +1,6 @@
 -- The check of a group: its steps, and what it shows.
 use Rattle.std.proofs.Common.{◌≡◌, ℕ, zero, suc, ◌+◌, ◌-◌, ◌<◌, ◌≤◌, Bool, true, false, cond, ◌&&◌, eqb, ltb, leb, ◌⊎◌, List, [], ◌∷◌, length, get_or, take, drop, is_ok, Some, None, Ok, Err, Option, Result, sym, refl, ap, ◌∙◌, subst, inl, inr, arith, length-take, take_all}
-use Rattle.std.specs.List.{AllByRecursion as All}
+use Rattle.std.specs.List.{AllByRecursion}
 use Rattle.std.proofs.lemmas.Bool.{and_parts, and_from, leb-true, ltb-true, le-leb, lt-leb, lt-ltb, le-ltb, eq-eqb, ne_eqb, cases_lt, cases_eq, cond-true, cond-false}
 use Rattle.std.proofs.lemmas.Bool.Decides.{nat_tests}
 use Rattle.std.proofs.lemmas.List.{at_drop_more, at_drop_all}
@@ -125,7 +125,7 @@ module _ {X : Type 0} (names : X → ℕ) (allows : X → Bool) (n q : ℕ) (xs 
                 long = omega (arith, s.after, s.enough);
                 ascends = subst (Ascends names n 0) all s.ascends;
                 counted = subst (λ ys. q ≤ count (signed_by names ys) n) all (counted names allows n q 0 xs p g);
-                passes = subst (All (λ x. allows x ≡ true)) all s.passes;
+                passes = subst (AllByRecursion (λ x. allows x ≡ true)) all s.passes;
               }
 
   pub index : (i : ℕ) → list_fault names allows n q xs ≡ Some i → (i ≤ q) × (i ≤ length xs)

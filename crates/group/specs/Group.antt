@@ -1,6 +1,6 @@
 -- A group: q records by ascending signers below n that each keep a rule.
 use Rattle.std.specs.Prelude.{◌≡◌, ℕ, zero, suc, ◌+◌, ◌-◌, ◌<◌, ◌≤◌, Bool, true, cond, ◌&&◌, List, [], ◌∷◌, length, take, is_ok, Some, None, Ok, Err, Option, Result, ◌==◌, nat_le, nat_lt, slice_index_or}
-use Rattle.std.specs.List.{AllByRecursion as All}
+use Rattle.std.specs.List.{AllByRecursion}
 use Rattle.wire.specs.declared.records.DigestValue.{DigestValue}
 use Rattle.wire.specs.declared.records.Statement.{Statement}
 use Rattle.wire.specs.declared.records.Sealed.{Sealed}
@@ -50,7 +50,7 @@ pub record Stood {X : Type 0} (names : X → ℕ) (allows : X → Bool) (n k pla
   pub enough : k ≤ length xs
   pub after : next ≡ place + k
   pub ascends : Ascends names n least (take k xs)
-  pub passes : All (λ x. allows x ≡ true) (take k xs)
+  pub passes : AllByRecursion (λ x. allows x ≡ true) (take k xs)
 
 -- what a fault shows: the records before it are a group, and with it they are none
 pub record Fell {X : Type 0} (names : X → ℕ) (allows : X → Bool) (n k place least : ℕ) (xs : List X) (fault : ℕ) : Type 0 where
@@ -65,7 +65,7 @@ pub record Whole {X : Type 0} (names : X → ℕ) (allows : X → Bool) (n q : �
   pub long : length xs ≡ q
   pub ascends : Ascends names n 0 xs
   pub counted : q ≤ count (signed_by names xs) n
-  pub passes : All (λ x. allows x ≡ true) xs
+  pub passes : AllByRecursion (λ x. allows x ≡ true) xs
 
 -- what the check is for, of any records and rule
 pub record Groups {X : Type 0} (names : X → ℕ) (allows : X → Bool) : Type 0 where

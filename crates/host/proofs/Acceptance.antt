@@ -1,6 +1,6 @@
 -- The walk over the dossier of true partings, part by part.
 use Rattle.std.proofs.Common.{◌≡◌, ℕ, zero, suc, ◌+◌, ◌-◌, ◌<◌, ◌≤◌, Bool, true, false, cond, not, ◌&&◌, eqb, ltb, List, [], ◌∷◌, ◌++◌, map, length, get_or, take, drop, Some, None, Ok, Err, fold, Result, sym, refl, ap, ◌∙◌, subst, inl, inr, append_assoc, arith, length-append}
-use Rattle.std.specs.List.{range_with_len, flat_map, AllByRecursion as All}
+use Rattle.std.specs.List.{range_with_len, flat_map, AllByRecursion}
 use Rattle.std.proofs.lemmas.List.{append-nil, get_or_at, drop_at, take_at, get_or-drop}
 use Rattle.std.proofs.ByRecursion.{All-weaker}
 use Rattle.std.proofs.lemmas.Bool.{cases_lt, cases_eq, cond-true, cond-false, and_from, and_left, and_right, not_from_true, not_from_false, lt-ltb, le-ltb, le-leb, lt-leb, eq-eqb, ne_eqb}
@@ -137,7 +137,7 @@ module _ (accepts : Statement → ℕ → Bool) (terms : Terms) (digests : ℕ �
         }
 
     helds_run : (j place : ℕ) (c : Tally) (ps : List (List Sealed)) (pre post best : List Sealed)
-        → All T ps → All (λ p. stable_in p < s) ps → rs ≡ pre ++ (flat_map (held_in s) ps ++ post) → length pre ≡ place → Stands s best c
+        → AllByRecursion T ps → AllByRecursion (λ p. stable_in p < s) ps → rs ≡ pre ++ (flat_map (held_in s) ps ++ post) → length pre ≡ place → Stands s best c
         → Ran s (fold (higher (claimed_epoch s)) best ps) (helds_from accepts terms rs s last j c place (map head_of ps)) (place + length (flat_map (held_in s) ps))
     helds_run j place c [] pre post best all low is long w = record { value = record { tally = c; next = place }; is = refl; next = omega arith; stands = w }
     helds_run j place c (p ∷ ps) pre post best all low is long w =
@@ -223,7 +223,7 @@ module _ (accepts : Statement → ℕ → Bool) (terms : Terms) (digests : ℕ �
           next = omega (arith, length-append hs backed, quorum.long);
         }
 
-    found_run : (s place : ℕ) (ps : List (List Sealed)) (pre post : List Sealed) → All T ps → All (λ p. stable_in p < s) ps
+    found_run : (s place : ℕ) (ps : List (List Sealed)) (pre post : List Sealed) → AllByRecursion T ps → AllByRecursion (λ p. stable_in p < s) ps
         → rs ≡ pre ++ (at_number ps s ++ post) → length pre ≡ place
         → Got (found accepts terms rs (map head_of ps) s place) (place + length (at_number ps s))
     unfolding at_number
@@ -241,7 +241,7 @@ module _ (accepts : Statement → ℕ → Bool) (terms : Terms) (digests : ℕ �
               is' long w
         ]
 
-    numbers_run : (ps : List (List Sealed)) → All T ps → (k s place : ℕ) (cs : List Claim) (pre : List Sealed) → All (λ p. stable_in p < s) ps
+    numbers_run : (ps : List (List Sealed)) → AllByRecursion T ps → (k s place : ℕ) (cs : List Claim) (pre : List Sealed) → AllByRecursion (λ p. stable_in p < s) ps
         → rs ≡ pre ++ flat_map (at_number ps) (range_with_len s k) → length pre ≡ place
         → Passed (numbers accepts terms rs (map head_of ps) k s place cs) (length rs)
     unfolding numbers
@@ -264,7 +264,7 @@ module _ (accepts : Statement → ℕ → Bool) (terms : Terms) (digests : ℕ �
   numbers_low ps h k low is-k = cond-true _ _ _ (le-leb h 1000000000000 low) ∙ ap (λ n. flat_map (at_number ps) (range_with_len (h + 1) n)) (sym is-k)
 
   -- the checkpoints of the base, from the place q on
-  checkpoints_on : (ps : List (List Sealed)) (rs front post : List Sealed) → All T ps → length front ≡ terms.q → rs ≡ front ++ (checkpoints_in (highest stable_in ps) ++ post)
+  checkpoints_on : (ps : List (List Sealed)) (rs front post : List Sealed) → AllByRecursion T ps → length front ≡ terms.q → rs ≡ front ++ (checkpoints_in (highest stable_in ps) ++ post)
       → checkpoints accepts terms rs (base_in ps) terms.q ≡ Ok (terms.q + length (checkpoints_in (highest stable_in ps)))
   checkpoints_on ps rs front post all long is =
       let best = highest stable_in ps in
@@ -292,7 +292,7 @@ module _ (accepts : Statement → ℕ → Bool) (terms : Terms) (digests : ℕ �
   closing rs base mark w = cond (ltb w.next (length rs)) (Err w.next) (Ok (record { base = base; mark = mark; claims = w.claims }))
 
   accepted_by : ((s : ℕ) → digests 0 s ≡ value_of 0) → (k : ℕ) → k ≡ 32 → (ps : List (List Sealed))
-      → Quorum terms (stable_fits accepts terms) (flat_map (one_at 0) ps) → All T ps
+      → Quorum terms (stable_fits accepts terms) (flat_map (one_at 0) ps) → AllByRecursion T ps
       → (o : Opened) × (walked accepts terms (assembled ps) ≡ Ok o) × (o.base ≡ base_in ps)
   accepted_by at_none k is-k ps quorum all =
       let rs = assembled ps in

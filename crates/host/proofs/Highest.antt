@@ -1,6 +1,6 @@
 -- What the first highest of several partings is.
 use Rattle.std.proofs.Common.{◌≡◌, ℕ, ◌+◌, ◌-◌, ◌<◌, ◌≤◌, max, ◌&&◌, ltb, leb, ◌⊎◌, List, [], ◌∷◌, map, length, get_or, take, fold, refl, ap, ◌∙◌, inr, arith}
-use Rattle.std.specs.List.{flat_map, AllByRecursion as All}
+use Rattle.std.specs.List.{flat_map, AllByRecursion}
 use Rattle.std.proofs.lemmas.List.{drop_all, drop_more}
 use Rattle.std.proofs.lemmas.Bool.{ltb-true, ltb-false, cond_both, cond-true, cond-false, and_from, and_right, lt-ltb, le-leb, lt-leb}
 use Rattle.wire.specs.declared.records.Sealed.{Sealed}
@@ -10,7 +10,7 @@ use Rattle.host.specs.Partings.{one_at, stable_in, held_in, higher}
 
 module _ (key : List Sealed → ℕ) where
   -- what holds of all holds of it
-  pub highest_keeps : (Q : List Sealed → Type 0) (best : List Sealed) (ps : List (List Sealed)) → Q best → All Q ps → Q (fold (higher key) best ps)
+  pub highest_keeps : (Q : List Sealed → Type 0) (best : List Sealed) (ps : List (List Sealed)) → Q best → AllByRecursion Q ps → Q (fold (higher key) best ps)
   highest_keeps Q best [] b a = b
   highest_keeps Q best (p ∷ ps) b a =
       highest_keeps Q (higher key best p) ps (cond_both (ltb (key best) (key p)) p best Q (λ _. a.0) (λ _. b)) a.1
@@ -30,7 +30,7 @@ module _ (key : List Sealed → ℕ) where
       let more : key best ≤ key (higher key best p) = cond_both (ltb (key best) (key p)) p best (λ x. key best ≤ key x) (λ e. omega (arith, ltb-true (key best) (key p) e)) (λ _. omega arith) in
       omega (arith, highest_from (higher key best p) ps)
 
-  pub highest_above : (best : List Sealed) (ps : List (List Sealed)) → All (λ p. key p ≤ key (fold (higher key) best ps)) ps
+  pub highest_above : (best : List Sealed) (ps : List (List Sealed)) → AllByRecursion (λ p. key p ≤ key (fold (higher key) best ps)) ps
   highest_above best [] = tt
   highest_above best (p ∷ ps) =
       let more : key p ≤ key (higher key best p) = cond_both (ltb (key best) (key p)) p best (λ x. key p ≤ key x) (λ _. omega arith) (λ e. omega (arith, ltb-false (key best) (key p) e)) in
@@ -50,7 +50,7 @@ largest_is best (p ∷ ps) =
     ap (λ h. fold larger h (map head_of ps)) one ∙ largest_is (higher stable_in best p) ps
 
 -- partings that have a first record
-pub heads_are : (ps : List (List Sealed)) → All (λ p. 0 < length p) ps → flat_map (one_at 0) ps ≡ map head_of ps
+pub heads_are : (ps : List (List Sealed)) → AllByRecursion (λ p. 0 < length p) ps → flat_map (one_at 0) ps ≡ map head_of ps
 heads_are [] a = refl
 heads_are ([] ∷ ps) a = let z : 0 < 0 = a.0 in absurd (omega arith)
 heads_are ((r ∷ rs) ∷ ps) a = ap (λ ts. r ∷ ts) (heads_are ps a.1)

@@ -1,6 +1,6 @@
 -- What is shown of assembly: the dossier of q true partings is accepted.
 use Rattle.std.specs.Prelude.{◌≡◌, ℕ, ◌+◌, ◌-◌, ◌<◌, ◌≤◌, Bool, true, List, length, Ok, slice_index_or}
-use Rattle.std.specs.List.{flat_map, AllByRecursion as All}
+use Rattle.std.specs.List.{flat_map, AllByRecursion}
 use Rattle.wire.specs.Values.{value_of}
 use Rattle.wire.specs.declared.records.DigestValue.{DigestValue}
 use Rattle.wire.specs.declared.records.Statement.{Statement}
@@ -41,5 +41,5 @@ AssemblyAccepted =
     (accepts : Statement → ℕ → Bool) (terms : Terms) (digests : ℕ → ℕ → DigestValue) (ps : List (List Sealed))
     → ((s : ℕ) → digests 0 s ≡ value_of 0)
     → Quorum terms (stable_fits accepts terms) (flat_map (one_at 0) ps)
-    → All (TrueParting accepts terms digests) ps
+    → AllByRecursion (TrueParting accepts terms digests) ps
     → (o : Opened) × (walked accepts terms (assembled ps) ≡ Ok o) × (o.base ≡ base_in ps)

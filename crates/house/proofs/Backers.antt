@@ -1,6 +1,6 @@
 -- A quorum of ballots for a digest is a quorum of controllers that cast one.
 use Rattle.std.proofs.Common.{◌≡◌, ℕ, suc, ◌+◌, ◌-◌, ◌≤◌, Bool, true, false, cond, List, [], ◌∷◌, get_or, take, is_ok, Some, None, Ok, Err, Option, Result, sym, refl, ap, ◌∙◌, arith}
-use Rattle.std.specs.List.{AllByRecursion as All}
+use Rattle.std.specs.List.{AllByRecursion}
 use Rattle.std.proofs.ByRecursion.{All-weaker, All-take}
 use Rattle.std.proofs.lemmas.List.{length-take-le}
 use Rattle.std.proofs.lemmas.Bool.{false≢true}
@@ -20,7 +20,7 @@ use Rattle.table.specs.Ballots.{vote_for, before, backers_from, backers, vote_si
 abbrev Cast : DigestValue → ℕ → List (Option Ballot) → Vote → Type 0
 Cast d s xs v = (x : Ballot) × (s ≤ v.signer) × (get_or xs (v.signer - s) None ≡ Some x) × (x.digest ≡ d)
 
-each : (d : DigestValue) (s : ℕ) (xs : List (Option Ballot)) → All (Cast d s xs) (backers_from d s xs)
+each : (d : DigestValue) (s : ℕ) (xs : List (Option Ballot)) → AllByRecursion (Cast d s xs) (backers_from d s xs)
 each d s [] = tt
 each d s (x ∷ xs) = first x (All-weaker (Cast d (s + 1) xs) (Cast d s (x ∷ xs)) up (backers_from d (s + 1) xs) (each d (s + 1) xs))
   where
@@ -29,14 +29,14 @@ each d s (x ∷ xs) = first x (All-weaker (Cast d (s + 1) xs) (Cast d s (x ∷ x
         let at : v.signer - s ≡ suc (v.signer - (s + 1)) = omega (arith, c.1) in
         (c.0, omega (arith, c.1), ap (λ n. get_or (x ∷ xs) n None) at ∙ c.2, c.3)
 
-    first : (y : Option Ballot) → All (Cast d s (x ∷ xs)) (backers_from d (s + 1) xs) → All (Cast d s (x ∷ xs)) (before (vote_for d s x) (backers_from d (s + 1) xs))
+    first : (y : Option Ballot) → AllByRecursion (Cast d s (x ∷ xs)) (backers_from d (s + 1) xs) → AllByRecursion (Cast d s (x ∷ xs)) (before (vote_for d s x) (backers_from d (s + 1) xs))
     first y rest = head x refl
       where
-        head : (y : Option Ballot) → x ≡ y → All (Cast d s (x ∷ xs)) (before (vote_for d s y) (backers_from d (s + 1) xs))
+        head : (y : Option Ballot) → x ≡ y → AllByRecursion (Cast d s (x ∷ xs)) (before (vote_for d s y) (backers_from d (s + 1) xs))
         head None h = rest
         head (Some b) h = go (same_digest b.digest d) refl
           where
-            go : (t : Bool) → same_digest b.digest d ≡ t → All (Cast d s (x ∷ xs)) (before (cond t (Some (record { signer = s; digest = b.digest; seal = b.seal })) None) (backers_from d (s + 1) xs))
+            go : (t : Bool) → same_digest b.digest d ≡ t → AllByRecursion (Cast d s (x ∷ xs)) (before (cond t (Some (record { signer = s; digest = b.digest; seal = b.seal })) None) (backers_from d (s + 1) xs))
             go false e = rest
             go true e =
                 let zero_at : s - s ≡ 0 = omega arith in

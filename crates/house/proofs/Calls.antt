@@ -1,6 +1,6 @@
 -- Offer, supply, prove and vote keep what holds of a controller.
 use Rattle.std.proofs.Common.{◌≡◌, ℕ, zero, suc, ◌+◌, ◌<◌, ◌≤◌, Bool, true, false, cond, not, ◌&&◌, ◌||◌, eqb, ltb, leb, ◌⊎◌, List, [], ◌∷◌, ◌++◌, map, length, get_or, take, set, replicate, is_some, is_ok, Some, None, Option, unwrap_or, sym, refl, ap, ◌∙◌, subst, inl, inr, append-nil, arith}
-use Rattle.std.specs.List.{AllByRecursion as All}
+use Rattle.std.specs.List.{AllByRecursion}
 use Rattle.std.proofs.lemmas.List.{get_or-set_same, get_or-set_other, set_past}
 use Rattle.std.proofs.lemmas.Bool.{or_parts, and_parts, eqb-true, ltb-false, leb-false, lt-ltb, not-false, cases_eq, cases_lt, false≢true}
 use Rattle.wire.specs.declared.records.DigestValue.{DigestValue}
@@ -84,12 +84,12 @@ pub few_requests : (value : List ℕ → DigestValue) (d : DigestValue) (rs : Li
 few_requests value d rs e = ltb-false 16 (length rs) (or_parts (ltb 16 (length rs)) _ e).0
 
 -- all requests of an offered batch have true seals
-sealed_all : (accepts : Statement → ℕ → Bool) (value : List ℕ → DigestValue) (c : Core) (s : ℕ) (all : List Request) (i : ℕ) (rs : List Request) → Offer.first_bad accepts value c s all i rs ≡ None → All (λ r. accepts (request_statement r) r.seal ≡ true) rs
+sealed_all : (accepts : Statement → ℕ → Bool) (value : List ℕ → DigestValue) (c : Core) (s : ℕ) (all : List Request) (i : ℕ) (rs : List Request) → Offer.first_bad accepts value c s all i rs ≡ None → AllByRecursion (λ r. accepts (request_statement r) r.seal ≡ true) rs
 sealed_all accepts value c s all i [] e = tt
 sealed_all accepts value c s all i (r ∷ rs) e = go (Offer.bad_request accepts value c s (take i all) r) refl e (sealed_all accepts value c s all (i + 1) rs)
   where
     go : (b : Bool) → Offer.bad_request accepts value c s (take i all) r ≡ b → cond b (Some i) (Offer.first_bad accepts value c s all (i + 1) rs) ≡ None
-        → (Offer.first_bad accepts value c s all (i + 1) rs ≡ None → All (λ r. accepts (request_statement r) r.seal ≡ true) rs) → All (λ r. accepts (request_statement r) r.seal ≡ true) (r ∷ rs)
+        → (Offer.first_bad accepts value c s all (i + 1) rs ≡ None → AllByRecursion (λ r. accepts (request_statement r) r.seal ≡ true) rs) → AllByRecursion (λ r. accepts (request_statement r) r.seal ≡ true) (r ∷ rs)
     go true h f ih = absurd (some_is_none i f)
     go false h f ih =
         let a = or_parts (not (admits c.windows r.client r.timestamp)) _ h in
@@ -99,16 +99,16 @@ sealed_all accepts value c s all i (r ∷ rs) e = go (Offer.bad_request accepts 
         (not-false (accepts (request_statement r) r.seal) e.1, ih f)
 
 module _ (honest honest_client : ℕ → Bool) (Issued AskedFor : Statement → Type 0) where
-  asked_all : (accepts : Statement → ℕ → Bool) (rs : List Request) → All (λ r. accepts (request_statement r) r.seal ≡ true) rs
-      → All (λ r. accepts r.statement r.seal ≡ true → Vouch honest honest_client Issued AskedFor r.statement) (map as_sealed rs)
-      → All (λ r. honest_client r.client ≡ true → AskedFor (request_statement r)) rs
+  asked_all : (accepts : Statement → ℕ → Bool) (rs : List Request) → AllByRecursion (λ r. accepts (request_statement r) r.seal ≡ true) rs
+      → AllByRecursion (λ r. accepts r.statement r.seal ≡ true → Vouch honest honest_client Issued AskedFor r.statement) (map as_sealed rs)
+      → AllByRecursion (λ r. honest_client r.client ≡ true → AskedFor (request_statement r)) rs
   asked_all accepts [] a v = tt
   asked_all accepts (r ∷ rs) a v = (λ h. (v.0 a.0).request refl h, asked_all accepts rs a.1 v.1)
 
   -- commits of a list that proves a number
-  heard_all : (accepts : Statement → ℕ → Bool) (e s : ℕ) (d : DigestValue) (list : List Sealed) → All (λ r. exactly accepts 4 e s d r ≡ true) list
-      → All (λ r. accepts r.statement r.seal ≡ true → Vouch honest honest_client Issued AskedFor r.statement) list
-      → All (λ r. Heard honest Issued (commit_by (signer_of r) e s d)) list
+  heard_all : (accepts : Statement → ℕ → Bool) (e s : ℕ) (d : DigestValue) (list : List Sealed) → AllByRecursion (λ r. exactly accepts 4 e s d r ≡ true) list
+      → AllByRecursion (λ r. accepts r.statement r.seal ≡ true → Vouch honest honest_client Issued AskedFor r.statement) list
+      → AllByRecursion (λ r. Heard honest Issued (commit_by (signer_of r) e s d)) list
   heard_all accepts e s d [] a v = tt
   heard_all accepts e s d (r ∷ rs) a v =
       let st = r.statement in
@@ -214,7 +214,7 @@ module _ {X : Type 0} (value : List ℕ → DigestValue) (next : X → ℕ → �
   -- OFFER
 
   pub offer_full : (accepts : Statement → ℕ → Bool) (p : Sealed) (rs : List Request) (outbox : List Sealed) (k : Node X) → F k → Handed rs
-      → (is_ok (Offer.offered accepts value k.core k.app outbox p rs).result ≡ true → All (V accepts) (p ∷ map as_sealed rs))
+      → (is_ok (Offer.offered accepts value k.core k.app outbox p rs).result ≡ true → AllByRecursion (V accepts) (p ∷ map as_sealed rs))
       → F (grown k (Offer.offered accepts value k.core k.app outbox p rs))
   offer_full accepts p rs outbox k full got vouch = go (Offer.offer_refusal accepts value k.core outbox p rs) refl
     where
@@ -324,7 +324,7 @@ module _ {X : Type 0} (value : List ℕ → DigestValue) (next : X → ℕ → �
   -- PROVE
 
   pub prove_full : (accepts : Statement → ℕ → Bool) (s : ℕ) (rs : List Request) (list : List Sealed) (outbox : List Sealed) (k : Node X) → F k → Handed rs
-      → (is_ok (Prove.proved next marked accepts value k.core k.app outbox s rs list).result ≡ true → All (V accepts) list)
+      → (is_ok (Prove.proved next marked accepts value k.core k.app outbox s rs list).result ≡ true → AllByRecursion (V accepts) list)
       → F (grown k (Prove.proved next marked accepts value k.core k.app outbox s rs list))
   prove_full accepts s rs list outbox k full got vouch = go (Prove.prove_refusal accepts value k.core outbox s rs list) refl
     where
@@ -332,7 +332,7 @@ module _ {X : Type 0} (value : List ℕ → DigestValue) (next : X → ℕ → �
       D = DeliveredOk value n (quorum n) honest Issued Handed
 
       -- the list proves the number
-      shown : (m : ℕ) → k.core.house.n ≡ m → (e : ℕ) → All (V accepts) list → list_fault signer_of (exactly accepts 4 e s (Prove.proved_digest list)) m (quorum m) list ≡ None → BatchOk value Handed (Prove.proved_digest list) rs → m ≡ n → DeliveredOk value n (quorum n) honest Issued Handed s rs
+      shown : (m : ℕ) → k.core.house.n ≡ m → (e : ℕ) → AllByRecursion (V accepts) list → list_fault signer_of (exactly accepts 4 e s (Prove.proved_digest list)) m (quorum m) list ≡ None → BatchOk value Handed (Prove.proved_digest list) rs → m ≡ n → DeliveredOk value n (quorum n) honest Issued Handed s rs
       shown m is e vs none ok size =
           let w = whole signer_of (exactly accepts 4 e s (Prove.proved_digest list)) m (quorum m) list none in
           let hs = heard_all honest honest_client Issued AskedFor accepts e s (Prove.proved_digest list) list w.passes vs in
@@ -532,7 +532,7 @@ module _ {X : Type 0} (value : List ℕ → DigestValue) (next : X → ℕ → �
         go false = full1
         go true = moved_full (with_tabled k (Vote.with_checkpoint c v) k.issued) st.number (listed (backers st.digest (row_at (Vote.with_checkpoint c v) st.number))) full1 (Tables.window_parts c.table st.number inside).0
 
-    pub vote_full : (is_ok (Vote.voted next marked accepts k.core k.app outbox v).result ≡ true → All (V accepts) (v ∷ [])) → F (grown k (Vote.voted next marked accepts k.core k.app outbox v))
+    pub vote_full : (is_ok (Vote.voted next marked accepts k.core k.app outbox v).result ≡ true → AllByRecursion (V accepts) (v ∷ [])) → F (grown k (Vote.voted next marked accepts k.core k.app outbox v))
     vote_full vouch = go (Vote.vote_refusal accepts k.core outbox v) refl
       where
         go : (r : Option Refusal) → Vote.vote_refusal accepts k.core outbox v ≡ r → F (grown k (called k.core k.app outbox r (Vote.vote_effect next marked k.core k.app v)))

@@ -1,6 +1,6 @@
 -- The calls that change the epoch keep what holds of a controller: giving up, entering by a dossier, and taking a turn.
 use Rattle.std.proofs.Common.{◌≡◌, ℕ, zero, suc, ◌+◌, ◌-◌, ◌<◌, ◌≤◌, Bool, true, false, cond, eqb, ltb, leb, ◌⊎◌, List, [], ◌++◌, get_or, replicate, is_ok, Some, None, Ok, Err, Option, Result, sym, refl, ap, ◌∙◌, subst, inl, inr, append-nil, arith}
-use Rattle.std.specs.List.{AllByRecursion as All}
+use Rattle.std.specs.List.{AllByRecursion}
 use Rattle.std.proofs.lemmas.Bool.{cases_lt, cond-true, cond_both, or_parts, leb-false, ltb-false, true≢false, false≢true, both_ways}
 use Rattle.wire.specs.declared.records.DigestValue.{DigestValue}
 use Rattle.wire.specs.declared.records.Statement.{Statement}
@@ -458,7 +458,7 @@ module _ {X : Type 0} (value : List ℕ → DigestValue) (next : X → ℕ → �
           (enter_origin c k.app new records o f.long begun sound h.0 h.1 (omega (arith, w.0, step.stable.1)) w.3)
 
   pub enter_full : q ≡ quorum n → (accepts : Statement → ℕ → Bool) (new : Sealed) (records : List Sealed) (outbox : List Sealed) (k : Node X) → F k
-      → (is_ok (entered accepts k.core k.app outbox new records).result ≡ true → All (λ r. accepts r.statement r.seal ≡ true → honest (signer_of r) ≡ true → Issued r.statement) records)
+      → (is_ok (entered accepts k.core k.app outbox new records).result ≡ true → AllByRecursion (λ r. accepts r.statement r.seal ≡ true → honest (signer_of r) ≡ true → Issued r.statement) records)
       → F (grown k (entered accepts k.core k.app outbox new records))
   enter_full q-is accepts new records outbox k f fair = go (opened accepts k.core new records) refl (enter_refusal accepts k.core outbox new (opened accepts k.core new records)) refl
     where

@@ -1,6 +1,6 @@
 -- What an accepted call has passed.
 use Rattle.std.proofs.Common.{◌≡◌, ℕ, Bool, true, false, cond, List, [], ◌∷◌, is_ok, Some, None, Option, refl, ap}
-use Rattle.std.specs.List.{AllByRecursion as All}
+use Rattle.std.specs.List.{AllByRecursion}
 use Rattle.wire.specs.declared.records.Sealed.{Sealed}
 use Rattle.protocol.specs.declared.records.Core.{Core}
 use Rattle.protocol.specs.declared.refusal.Refusal.{Refusal}
@@ -9,11 +9,11 @@ use Rattle.protocol.specs.Call.{Effect, called}
 use Rattle.house.proofs.Options.{some_is_none}
 
 -- none of the checks applies
-pub passed : (cs : List (Bool × Refusal)) → first_of cs ≡ None → All (λ c. c.0 ≡ false) cs
+pub passed : (cs : List (Bool × Refusal)) → first_of cs ≡ None → AllByRecursion (λ c. c.0 ≡ false) cs
 passed [] e = tt
 passed (c ∷ cs) e = go c.0 refl e (passed cs)
   where
-    go : (b : Bool) → c.0 ≡ b → cond b (Some c.1) (first_of cs) ≡ None → (first_of cs ≡ None → All (λ d. d.0 ≡ false) cs) → All (λ d. d.0 ≡ false) (c ∷ cs)
+    go : (b : Bool) → c.0 ≡ b → cond b (Some c.1) (first_of cs) ≡ None → (first_of cs ≡ None → AllByRecursion (λ d. d.0 ≡ false) cs) → AllByRecursion (λ d. d.0 ≡ false) (c ∷ cs)
     go true h f ih = absurd (some_is_none c.1 f)
     go false h f ih = (h, ih f)
 

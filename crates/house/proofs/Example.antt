@@ -1,6 +1,6 @@
 -- The premises hold of a run that delivers.
 use Rattle.std.proofs.Common.{◌≡◌, ℕ, zero, suc, Bool, true, false, not, ◌&&◌, ◌||◌, eqb, leb, ◌⊎◌, List, [], ◌∷◌, sym, refl, ◌∙◌, inl, inr, arith, lit≤}
-use Rattle.std.specs.List.{AllByRecursion as All}
+use Rattle.std.specs.List.{AllByRecursion}
 use Rattle.std.proofs.lemmas.Bool.{leb-true, and_parts, and_from, eq-eqb, le-leb, false≢true}
 use Rattle.wire.specs.declared.records.Statement.{Statement}
 use Rattle.wire.specs.declared.records.Sealed.{Sealed}
@@ -89,7 +89,7 @@ vouched older st r v = record {
 }
 
 all_vouched : (older : List Runs.Event) (c : Runs.Call) (rs : List Sealed) → all_good older rs ≡ true
-    → All (λ r. Runs.accepts_in c r ≡ true → Vouched older r.statement) rs
+    → AllByRecursion (λ r. Runs.accepts_in c r ≡ true → Vouched older r.statement) rs
 all_vouched older c [] h = tt
 all_vouched older c (r ∷ rs) h =
     let p = and_parts (good_request older r.statement) _ h in
@@ -114,7 +114,7 @@ changing_seals = good_seals Example.changing_run refl
 -- a run that hands in only one batch
 abbrev Only : List Request → List Runs.Event → Type 0
 Only b [] = Unit {0}
-Only b (Runs.at k outbox c ∷ older) = All (λ x. x ≡ b) (Runs.batches_in c) × Only b older
+Only b (Runs.at k outbox c ∷ older) = AllByRecursion (λ x. x ≡ b) (Runs.batches_in c) × Only b older
 Only b (Runs.asks client timestamp payload ∷ older) = Only b older
 
 only : (b : List Request) (run : List Runs.Event) → Only b run → (a : List Request) → Runs.Handed Example.honest run a → a ≡ b
@@ -123,7 +123,7 @@ only b (Runs.asks client timestamp payload ∷ older) u a h = only b older u a h
 only b (Runs.at k outbox c ∷ older) u a (inr h) = only b older u.1 a h
 only b (Runs.at k outbox c ∷ older) u a (inl h) = go (Runs.batches_in c) u.0 h.1
   where
-    go : (xs : List (List Request)) → All (λ x. x ≡ b) xs → Runs.Has xs a → a ≡ b
+    go : (xs : List (List Request)) → AllByRecursion (λ x. x ≡ b) xs → Runs.Has xs a → a ≡ b
     go [] all h = absurd h
     go (x ∷ xs) all (inl h) = sym h ∙ all.0
     go (x ∷ xs) all (inr h) = go xs all.1 h

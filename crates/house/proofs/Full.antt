@@ -1,6 +1,6 @@
 -- What holds of an honest controller with its application, log and issued statements after any run.
 use Rattle.std.proofs.Common.{◌≡◌, ℕ, ◌+◌, ◌<◌, ◌≤◌, Bool, true, false, ◌⊎◌, List, [], ◌++◌, length, get_or, Some, None, append-nil}
-use Rattle.std.specs.List.{flat_map, AllByRecursion as All}
+use Rattle.std.specs.List.{flat_map, AllByRecursion}
 use Rattle.wire.specs.declared.records.DigestValue.{DigestValue}
 use Rattle.wire.specs.declared.records.Statement.{Statement}
 use Rattle.wire.specs.declared.records.Sealed.{Sealed}
@@ -52,7 +52,7 @@ pub record OfferedOk (value : List ℕ → DigestValue) (honest_client : ℕ →
   pub digest : batch_digest value rs ≡ d
   pub handed : Handed rs
   pub few : length rs ≤ 16
-  pub asked : All (λ r. honest_client r.client ≡ true → AskedFor (request_statement r)) rs
+  pub asked : AllByRecursion (λ r. honest_client r.client ≡ true → AskedFor (request_statement r)) rs
 
 -- where a prepared digest comes from
 abbrev pub Origin : (List ℕ → DigestValue) → ℕ → ℕ → (ℕ → Bool) → (ℕ → Bool) → (Statement → Type 0) → (List Request → Type 0) → (Statement → Type 0) → ℕ → ℕ → DigestValue → Type 0

@@ -1,6 +1,6 @@
 -- There is one log.
 use Rattle.std.proofs.Common.{◌≡◌, ℕ, suc, ◌+◌, ◌<◌, ◌≤◌, Bool, true, not, ◌⊎◌, List, [], ◌∷◌, ◌++◌, length, get_or, sym, refl, ap, ◌∙◌, subst, inl, inr, ⊎_elim, arith}
-use Rattle.std.specs.List.{flat_map, AllByRecursion as All}
+use Rattle.std.specs.List.{flat_map, AllByRecursion}
 use Rattle.std.proofs.lemmas.List.{ext_get_or}
 use Rattle.std.proofs.lemmas.Bool.{false≢true}
 use Rattle.wire.specs.declared.records.DigestValue.{DigestValue}
@@ -38,7 +38,7 @@ in_some r (b ∷ bs) h = go (split b h) (in_some r bs)
     go (inl h) ih = (0, omega arith, h)
     go (inr h) ih = let w = ih h in (suc w.0, omega (arith, w.1), w.2)
 
-all_stands : (P : Request → Type 0) (rs : List Request) (r : Request) → All P rs → Stands r rs → P r
+all_stands : (P : Request → Type 0) (rs : List Request) (r : Request) → AllByRecursion P rs → Stands r rs → P r
 all_stands P [] r a h = absurd h
 all_stands P (x ∷ xs) r a (inl h) = subst P h a.0
 all_stands P (x ∷ xs) r a (inr h) = all_stands P xs r a.1 h
@@ -130,7 +130,7 @@ module _ {X : Type 0} (value : List ℕ → DigestValue) (next : X → ℕ → �
         from (inr z) (inr g) = absurd (g.2 z)
         from (inl o) (inr g) =
             let same = differ o.rs rs o.handed g.0 o.few g.1 (o.digest ∙ sym x.batch.digest) in
-            all_stands (λ q. honest_client q.client ≡ true → AskedFor (request_statement q)) rs r (subst (All (λ q. honest_client q.client ≡ true → AskedFor (request_statement q))) same o.asked) st hon
+            all_stands (λ q. honest_client q.client ≡ true → AskedFor (request_statement q)) rs r (subst (AllByRecursion (λ q. honest_client q.client ≡ true → AskedFor (request_statement q))) same o.asked) st hon
 
   -- at any moment of the run
   module _ (run : List Runs.Event) (seals : Seals run) (differ : Runs.DigestsDiffer value honest run) where

@@ -1,6 +1,6 @@
 -- Over a whole run: what holds of each honest controller at any moment.
 use Rattle.std.proofs.Common.{◌≡◌, ℕ, ◌+◌, Bool, true, false, cond, eqb, leb, List, [], ◌∷◌, length, get_or, is_ok, Some, None, Option, sym, refl, ap, ◌∙◌, subst, inl, inr, arith, lit≤}
-use Rattle.std.specs.List.{AllByRecursion as All}
+use Rattle.std.specs.List.{AllByRecursion}
 use Rattle.std.proofs.ByRecursion.{All-weaker}
 use Rattle.std.proofs.lemmas.List.{length-append}
 use Rattle.std.proofs.lemmas.Bool.{eqb-true, and_parts, leb-true, cond_both}
@@ -119,8 +119,8 @@ module _ {X : Type 0} (value : List ℕ → DigestValue) (next : X → ℕ → �
         no_ballot s w i x e = none_is_some x (sym (none_of_none 16 i) ∙ (sym (ap (λ (p : Place). get_or p.commits.of i None) (Tables.new_place s w)) ∙ e))
 
     -- each call keeps it, given what its accepted seals stand for and that its batches were handed in
-    after_full : (k : ℕ) (outbox : List Sealed) (c : Runs.Call) (w : Runs.Node X) → F k w → All Handed (Runs.batches_in c)
-        → (is_ok (Runs.stepped value next marked w.core w.app outbox c).result ≡ true → All (λ r. Runs.accepts_in c r ≡ true → Calls.Vouch honest honest_client Issued AskedFor r.statement) (Runs.handed c))
+    after_full : (k : ℕ) (outbox : List Sealed) (c : Runs.Call) (w : Runs.Node X) → F k w → AllByRecursion Handed (Runs.batches_in c)
+        → (is_ok (Runs.stepped value next marked w.core w.app outbox c).result ≡ true → AllByRecursion (λ r. Runs.accepts_in c r ≡ true → Calls.Vouch honest honest_client Issued AskedFor r.statement) (Runs.handed c))
         → ((a : Statement) → is_vote a.kind ≡ false → Issued a) → F k (Runs.after value next marked w outbox c)
     unfolding Runs.after
     after_full k outbox (Runs.offer accepts p rs) w full got vouch others = Calls.offer_full value next marked start n k honest honest_client Issued Handed AskedFor accepts p rs outbox w full got.0 vouch
@@ -141,7 +141,7 @@ module _ {X : Type 0} (value : List ℕ → DigestValue) (next : X → ℕ → �
   module _ (n : ℕ) (honest honest_client : ℕ → Bool) (members : (k : ℕ) → honest k ≡ true → ((houses k).n ≡ n) × ((houses k).own ≡ k))
       (Issued : Statement → Type 0) (Handed : List Request → Type 0) (AskedFor : Statement → Type 0)
       (others : (a : Statement) → is_vote a.kind ≡ false → Issued a) where
-    all_in : {A : Type 0} (P : A → Type 0) (xs : List A) → ((x : A) → Runs.Has xs x → P x) → All P xs
+    all_in : {A : Type 0} (P : A → Type 0) (xs : List A) → ((x : A) → Runs.Has xs x → P x) → AllByRecursion P xs
     all_in P [] f = tt
     all_in P (x ∷ xs) f = (f x (inl refl), all_in P xs (λ y h. f y (inr h)))
 

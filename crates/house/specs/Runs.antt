@@ -1,7 +1,7 @@
 -- Runs of a house: what its honest controllers are called with, and what honest clients ask for, in order of time. A run is a list with
 -- the newest first, so that what is earlier is a tail.
 use Rattle.std.specs.Prelude.{◌≡◌, ℕ, ◌+◌, ◌≤◌, Bool, true, false, cond, ◌⊎◌, List, [], ◌∷◌, ◌++◌, map, length, is_ok, Ok, Err, Result, ◌==◌}
-use Rattle.std.specs.List.{AllByRecursion as All}
+use Rattle.std.specs.List.{AllByRecursion}
 use Rattle.wire.specs.declared.records.DigestValue.{DigestValue}
 use Rattle.wire.specs.declared.records.Statement.{Statement}
 use Rattle.wire.specs.declared.records.Sealed.{Sealed}
@@ -156,7 +156,7 @@ module _ {X : Type 0} (value : List ℕ → DigestValue) (next : X → ℕ → �
     SealsHold honest honest_client [] = Unit {0}
     SealsHold honest honest_client (at k outbox c ∷ older) =
         (honest k ≡ true → accepted k outbox c older ≡ true
-        → All (λ r. accepts_in c r ≡ true → Vouched honest honest_client older r.statement) (handed c))
+        → AllByRecursion (λ r. accepts_in c r ≡ true → Vouched honest honest_client older r.statement) (handed c))
         × SealsHold honest honest_client older
     SealsHold honest honest_client (asks client timestamp payload ∷ older) = SealsHold honest honest_client older
 

@@ -1,7 +1,7 @@
 -- Counting: two large sets overlap, and a list of ascending signers is a set of as many controllers.
 use Rattle.std.proofs.Common.{◌≡◌, ℕ, zero, suc, ◌+◌, ◌<◌, ◌≤◌, Bool, true, false, not, ◌&&◌, ◌||◌, eqb, ◌⊎◌, List, [], ◌∷◌, length, refl, ap, subst, inl, inr, arith}
 use Rattle.std.proofs.lemmas.Bool.{and_parts, or_cases, or_from, not-true, eq-eqb, ne_eqb, eqb-true, cases_eq, false≢true}
-use Rattle.std.specs.List.{AllByRecursion as All}
+use Rattle.std.specs.List.{AllByRecursion}
 use Rattle.quorum.specs.Sizes.{allowed, faults, quorum}
 use Rattle.quorum.specs.Sets.{one, count, Quorum, Trusty, Shared, Ascends, signed_by}
 use Rattle.quorum.specs.Laws.{QuorumsOverlap, QuorumsMeet, QuorumHonest, SignersCount}
@@ -97,7 +97,7 @@ module _ {X : Type 0} (names : X → ℕ) where
   signed_count n lo (x ∷ xs) a =
       omega (arith, signed_count n (names x + 1) xs a.2, count_insert (signed_by names xs) (names x) n a.1 (signed_above n (names x + 1) xs a.2 (names x) (omega arith)))
 
-  pub signed_each : (P : X → Type 0) (xs : List X) → All P xs → (i : ℕ) → signed_by names xs i ≡ true → (x : X) × (names x ≡ i) × P x
+  pub signed_each : (P : X → Type 0) (xs : List X) → AllByRecursion P xs → (i : ℕ) → signed_by names xs i ≡ true → (x : X) × (names x ≡ i) × P x
   signed_each P [] a i e = absurd (false≢true e)
   signed_each P (x ∷ xs) a i e = go (or_cases (eqb i (names x)) (signed_by names xs i) e) (signed_each P xs a.1 i)
     where
@@ -106,11 +106,11 @@ module _ {X : Type 0} (names : X → ℕ) where
       go (inr k) ih = ih k
 
   -- the signers of records of each of which P holds
-  pub quorum_of : (n q : ℕ) (P : X → Type 0) (xs : List X) → Ascends names n 0 xs → All P xs → q ≤ length xs → Quorum n q (λ i. (x : X) × (names x ≡ i) × P x)
+  pub quorum_of : (n q : ℕ) (P : X → Type 0) (xs : List X) → Ascends names n 0 xs → AllByRecursion P xs → q ≤ length xs → Quorum n q (λ i. (x : X) × (names x ≡ i) × P x)
   quorum_of n q P xs a h k = record { «in» = signed_by names xs; enough = omega (arith, signed_count n 0 xs a); each = λ i _ e. signed_each P xs h i e }
 
   -- the same where P is a fact of the signer
-  pub quorum_at : (n q : ℕ) (P : ℕ → Type 0) (xs : List X) → Ascends names n 0 xs → All (λ x. P (names x)) xs → q ≤ length xs → Quorum n q P
+  pub quorum_at : (n q : ℕ) (P : ℕ → Type 0) (xs : List X) → Ascends names n 0 xs → AllByRecursion (λ x. P (names x)) xs → q ≤ length xs → Quorum n q P
   quorum_at n q P xs a h k =
       record {
         «in» = signed_by names xs;
