@@ -1,17 +1,19 @@
-# demo: proves what the program needs, then runs a whole house, with a liar and a bad network
+# demo: proves what the programs need, then runs them on the examples that stand beside them
 # replay: plays the recorded run that stands beside the program
 # test: the gate, everything proved from nothing
 .PHONY: demo replay test
 
+play = cd crates/$(1) && mkdir -p out && { rt run < stdin 2> out/run.log || { tail -20 out/run.log; exit 1; }; }
+
 demo:
-	@rt check simulate > target-demo.log 2>&1 || { tail -20 target-demo.log; exit 1; }
-	@rm -f target-demo.log
-	@target/bin/simulate
+	@echo "== recorded frames, taken apart (crates/inspect/stdin) =="
+	@$(call play,inspect)
+	@echo
+	@echo "== a day of orders (crates/orders/stdin) =="
+	@$(call play,orders)
 
 replay:
-	@rt check replay > target-demo.log 2>&1 || { tail -20 target-demo.log; exit 1; }
-	@rm -f target-demo.log
-	@target/bin/replay < crates/replay/stdin
+	@$(call play,replay)
 
 test:
 	@.ci/run
