@@ -9,9 +9,9 @@ use Rattle.house.specs.declared.opening.OpenFault.TheVariants.{Refused, Memory}
 use Rattle.house.specs.Members.{Answered, Grown, Numbered}
 use Rattle.house.specs.Unopened.{Unopened}
 
-pub by_number : {X R O : Type 0} (xs : List X) (outbox outbox-after : O) (i : ℕ) (x y : X) (r : R) (call : X → R → X → Type 0) →
-    i < length xs → ((d : X) → x ≡ get_or xs i d) → call x r y → Answered xs (set xs i y) outbox outbox-after i call (Some r)
-by_number {X} xs outbox outbox-after i x y r call h e a = (
+pub by_number : {X R O : Type 0} (xs : List X) (outbox outbox_after : O) (i : ℕ) (x y : X) (r : R) (call : X → R → X → Type 0) →
+    i < length xs → ((d : X) → x ≡ get_or xs i d) → call x r y → Answered xs (set xs i y) outbox outbox_after i call (Some r)
+by_number {X} xs outbox outbox_after i x y r call h e a = (
   h,
   λ d. let P : X → Type 0 = λ z. call z r (get_or (set xs i y) i d) in
       let Q : X → Type 0 = λ z. call x r z in

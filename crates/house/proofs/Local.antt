@@ -1,5 +1,5 @@
 -- Each step of a controller keeps what holds of it, by itself.
-use Rattle.std.proofs.Common.{◌≡◌, ℕ, ◌+◌, ◌<◌, ◌≤◌, Bool, true, false, ◌⊎◌, List, [], ◌∷◌, is_some as option_is_some, Some, None, Option, sym, refl, ap, ◌∙◌, subst, inl, inr, arith}
+use Rattle.std.proofs.Common.{◌≡◌, ℕ, ◌+◌, ◌<◌, ◌≤◌, Bool, true, false, ◌⊎◌, List, [], ◌∷◌, is_some, Some, None, Option, sym, refl, ap, ◌∙◌, subst, inl, inr, arith}
 use Rattle.std.proofs.lemmas.Bool.{cases_eq, cases_lt, false≢true, both_ways}
 use Rattle.wire.specs.declared.records.DigestValue.{DigestValue}
 use Rattle.wire.specs.declared.records.Statement.{Statement}
@@ -10,15 +10,15 @@ use Rattle.house.proofs.Sketch.{Sketch, commit_by, is_filled, Seen, Old, Link, C
 use Rattle.house.proofs.Options.{some_is}
 
 -- what an option holds
-some_of : {A : Type 0} (o : Option A) → option_is_some o ≡ true → (a : A) × (o ≡ Some a)
+some_of : {A : Type 0} (o : Option A) → is_some o ≡ true → (a : A) × (o ≡ Some a)
 some_of None h = absurd (false≢true h)
 some_of (Some a) h = (a, refl)
 
-is_some : {A : Type 0} (o : Option A) (a : A) → o ≡ Some a → option_is_some o ≡ true
-is_some {A} o a e = ap (λ (z : Option A). option_is_some z) e
+is_some_lem : {A : Type 0} (o : Option A) (a : A) → o ≡ Some a → is_some o ≡ true
+is_some_lem {A} o a e = ap (λ (z : Option A). is_some z) e
 
-none_some : {A : Type 0} (o : Option A) → o ≡ None → option_is_some o ≡ true → ⊥
-none_some {A} o e h = both_ways (option_is_some o) (ap (λ (z : Option A). option_is_some z) e) h
+none_some : {A : Type 0} (o : Option A) → o ≡ None → is_some o ≡ true → ⊥
+none_some {A} o e h = both_ways (is_some o) (ap (λ (z : Option A). is_some z) e) h
 
 right : {A B C : Type 0} → (B → C) → A ⊎ B → A ⊎ C
 right f (inl a) = inl a
@@ -107,10 +107,10 @@ module _ (n q self : ℕ) (honest : ℕ → Bool) (Issued : Statement → Type 0
       commit_was e s d h = was _ (λ z. omega (arith, z)) h
 
       back : (s : ℕ) → is_filled R s → is_filled S s
-      back s h = subst (λ (z : Option DigestValue). option_is_some z ≡ true) (st.filled s) h
+      back s h = subst (λ (z : Option DigestValue). is_some z ≡ true) (st.filled s) h
 
       forth : (s : ℕ) → is_filled S s → is_filled R s
-      forth s h = subst (λ (z : Option DigestValue). option_is_some z ≡ true) (sym (st.filled s)) h
+      forth s h = subst (λ (z : Option DigestValue). is_some z ≡ true) (sym (st.filled s)) h
 
       place : (s : ℕ) → (s ≤ S.stable) ⊎ is_filled S s → (s ≤ R.stable) ⊎ is_filled R s
       place s (inl u) = inl (omega (arith, st.stable))
@@ -161,17 +161,17 @@ module _ (n q self : ℕ) (honest : ℕ → Bool) (Issued : Statement → Type 0
       held_was t x he d' (inr h) = h
 
       back : (x : ℕ) → (x ≡ s → ⊥) → is_filled R x → is_filled S x
-      back x other h = subst (λ (z : Option DigestValue). option_is_some z ≡ true) (st.else x other) h
+      back x other h = subst (λ (z : Option DigestValue). is_some z ≡ true) (st.else x other) h
 
       full : (x : ℕ) → x ≡ s → is_filled R x
-      full x k = subst (λ (z : ℕ). is_filled R z) (sym k) (is_some (R.filled s) d st.here)
+      full x k = subst (λ (z : ℕ). is_filled R z) (sym k) (is_some_lem (R.filled s) d st.here)
 
       forth : (x : ℕ) → is_filled S x → is_filled R x
       forth x h = go (cases_eq x s)
         where
           go : (x ≡ s) ⊎ (x ≡ s → ⊥) → is_filled R x
           go (inl k) = full x k
-          go (inr k) = subst (λ (z : Option DigestValue). option_is_some z ≡ true) (sym (st.else x k)) h
+          go (inr k) = subst (λ (z : Option DigestValue). is_some z ≡ true) (sym (st.else x k)) h
 
       free : (x : ℕ) → x ≡ s → is_filled S x → ⊥
       free x k h = none_some (S.filled s) st.was (subst (λ (z : ℕ). is_filled S z) k h)
@@ -275,10 +275,10 @@ module _ (n q self : ℕ) (honest : ℕ → Bool) (Issued : Statement → Type 0
       held_was t x he d' (inr h) = h
 
       back : (x : ℕ) → is_filled R x → is_filled S x
-      back x h = subst (λ (z : Option DigestValue). option_is_some z ≡ true) (st.filled x) h
+      back x h = subst (λ (z : Option DigestValue). is_some z ≡ true) (st.filled x) h
 
       forth : (x : ℕ) → is_filled S x → is_filled R x
-      forth x h = subst (λ (z : Option DigestValue). option_is_some z ≡ true) (sym (st.filled x)) h
+      forth x h = subst (λ (z : Option DigestValue). is_some z ≡ true) (sym (st.filled x)) h
 
       place : (x : ℕ) → (x ≤ S.stable) ⊎ is_filled S x → (x ≤ R.stable) ⊎ is_filled R x
       place x (inl u) = inl (omega (arith, st.stable))
@@ -288,7 +288,7 @@ module _ (n q self : ℕ) (honest : ℕ → Bool) (Issued : Statement → Type 0
       commit_old e x d' (inl h) = (
         omega (arith, inv.begun, epoch_of h),
         (omega (arith, st.epoch, epoch_of h), λ k. absurd (both_ways S.changing st.steady (sym st.changing ∙ k))),
-        omega (arith, st.stable, number_of h, (inv.filled_window s (is_some (S.filled s) d st.is)).1),
+        omega (arith, st.stable, number_of h, (inv.filled_window s (is_some_lem (S.filled s) d st.is)).1),
       )
       commit_old e x d' (inr h) = let w = inv.commit_old e x d' h in (w.0, old_same S R st.epoch st.changing e w.1, omega (arith, st.stable, w.2))
 
@@ -334,14 +334,14 @@ module _ (n q self : ℕ) (honest : ℕ → Bool) (Issued : Statement → Type 0
         commit_old = λ e s d h. let w = inv.commit_old e s d h in (w.0, old_same S R st.epoch st.changing e w.1, omega (arith, st.stable, w.2));
         commit_prepared = inv.commit_prepared;
         prepare_here = λ e s d h k. place s (inv.prepare_here e s d h (k ∙ st.epoch));
-        filled_prepared = λ s d c f. subst (λ (y : ℕ). Has issued (prepare_by self y s d)) (sym st.epoch) (inv.filled_prepared s d (sym st.changing ∙ c) (sym (st.filled s (above s (is_some (R.filled s) d f))) ∙ f));
+        filled_prepared = λ s d c f. subst (λ (y : ℕ). Has issued (prepare_by self y s d)) (sym st.epoch) (inv.filled_prepared s d (sym st.changing ∙ c) (sym (st.filled s (above s (is_some_lem (R.filled s) d f))) ∙ f));
         one_prepare = inv.one_prepare;
         commit_cert = λ e s d h. cert e s (cases_lt R.stable s) (inv.commit_cert e s d h);
         stable_old = λ t m h. omega (arith, st.epoch, inv.stable_old t m h);
         held_old = λ t s he d h. omega (arith, st.epoch, inv.held_old t s he d h);
         kept = inv.kept;
         first_last = λ l h. omega (arith, st.first, inv.first_last l (sym st.last ∙ h));
-        filled_last = λ l s h f. inv.filled_last l s (sym st.last ∙ h) (subst (λ (z : Option DigestValue). option_is_some z ≡ true) (st.filled s (above s f)) f);
+        filled_last = λ l s h f. inv.filled_last l s (sym st.last ∙ h) (subst (λ (z : Option DigestValue). is_some z ≡ true) (st.filled s (above s f)) f);
         gap = λ c e s d h l. gap e s (inv.gap (sym st.changing ∙ c) e s d h (omega (arith, st.epoch)));
         crossed = inv.crossed;
       }
@@ -357,7 +357,7 @@ module _ (n q self : ℕ) (honest : ℕ → Bool) (Issued : Statement → Type 0
       forth s h = go (cases_lt R.stable s)
         where
           go : (R.stable < s) ⊎ (s ≤ R.stable) → (s ≤ R.stable) ⊎ is_filled R s
-          go (inl u) = inr (subst (λ (z : Option DigestValue). option_is_some z ≡ true) (sym (st.filled s u)) h)
+          go (inl u) = inr (subst (λ (z : Option DigestValue). is_some z ≡ true) (sym (st.filled s u)) h)
           go (inr u) = inl u
 
       place : (s : ℕ) → (s ≤ S.stable) ⊎ is_filled S s → (s ≤ R.stable) ⊎ is_filled R s
@@ -425,7 +425,7 @@ module _ (n q self : ℕ) (honest : ℕ → Bool) (Issued : Statement → Type 0
       held_view t s he d (inr (inr w)) = inr (epoch_of w.4, held_of w.4 ∙ ap (λ (z : ℕ). S.cert z) (sym (number_of w.4)))
 
       back : (s : ℕ) → is_filled R s → is_filled S s
-      back s h = subst (λ (z : Option DigestValue). option_is_some z ≡ true) (st.filled s) h
+      back s h = subst (λ (z : Option DigestValue). is_some z ≡ true) (st.filled s) h
 
       older : (e : ℕ) → e ≤ S.epoch → Old R e
       older e u = (omega (arith, st.epoch), λ _. omega (arith, st.epoch))
@@ -519,7 +519,7 @@ module _ (n q self : ℕ) (honest : ℕ → Bool) (Issued : Statement → Type 0
       prepare_here : (e s : ℕ) (d : DigestValue) → Has before (prepare_by self e s d) ⊎ Filled self x.target R (prepare_by self e s d)
           → e ≡ R.epoch → (s ≤ R.stable) ⊎ is_filled R s
       prepare_here e s d (inl w) k = absurd (omega (arith, st.epoch, older e (inv.prepare_old e s d w)))
-      prepare_here e s d (inr w) k = inr (is_some (R.filled s) d (filled_so e s d w.0 w.1 w.2 w.3))
+      prepare_here e s d (inr w) k = inr (is_some_lem (R.filled s) d (filled_so e s d w.0 w.1 w.2 w.3))
 
       one_prepare : (e s : ℕ) (d₁ d₂ : DigestValue)
           → Has before (prepare_by self e s d₁) ⊎ Filled self x.target R (prepare_by self e s d₁)
@@ -545,7 +545,7 @@ module _ (n q self : ℕ) (honest : ℕ → Bool) (Issued : Statement → Type 0
             after = older e (inv.commit_old e s d h).1;
             upto = omega (arith, st.epoch);
             above = l;
-            filled = λ t. (sym st.epoch, inr (is_some (R.filled s) (digest_of x.o s) (st.chosen s u t)));
+            filled = λ t. (sym st.epoch, inr (is_some_lem (R.filled s) (digest_of x.o s) (st.chosen s u t)));
           }))
 
       crossed : (e s : ℕ) (d : DigestValue) (e' : ℕ) (d' : DigestValue) → Has before (commit_by self e s d)
@@ -572,7 +572,7 @@ module _ (n q self : ℕ) (honest : ℕ → Bool) (Issued : Statement → Type 0
         commit_old = λ e s d h. let w = inv.commit_old e s d h in (w.0, later e w.1.0, omega (arith, st.stable, w.2));
         commit_prepared = inv.commit_prepared;
         prepare_here = λ e s d h k. absurd (omega (arith, st.epoch, (inv.prepare_old e s d h).0));
-        filled_prepared = λ s d c f. absurd (none_some (R.filled s) (st.filled s) (is_some (R.filled s) d f));
+        filled_prepared = λ s d c f. absurd (none_some (R.filled s) (st.filled s) (is_some_lem (R.filled s) d f));
         one_prepare = inv.one_prepare;
         commit_cert = λ e s d h. cert e s (inv.commit_cert e s d h);
         stable_old = λ t m h. omega (arith, st.epoch, inv.stable_old t m h);
@@ -618,13 +618,13 @@ module _ (n q self : ℕ) (honest : ℕ → Bool) (Issued : Statement → Type 0
         commit_old = λ e s d h. absurd h;
         commit_prepared = λ e s d h. absurd h;
         prepare_here = λ e s d h. absurd h;
-        filled_prepared = λ s d c f. absurd (none_some (S.filled s) (empty s) (is_some (S.filled s) d f));
+        filled_prepared = λ s d c f. absurd (none_some (S.filled s) (empty s) (is_some_lem (S.filled s) d f));
         one_prepare = λ e s d d' h. absurd h;
         commit_cert = λ e s d h. absurd h;
         stable_old = λ t m h. absurd h;
         held_old = λ t s he d h. absurd h;
         kept = λ e s d t m h. absurd h;
-        first_last = λ l h. absurd (none_some S.last open-ended (is_some S.last l h));
+        first_last = λ l h. absurd (none_some S.last open-ended (is_some_lem S.last l h));
         filled_last = λ l s h f. absurd (none_some (S.filled s) (empty s) f);
         gap = λ c e s d h. absurd h;
         crossed = λ e s d e' d' h. absurd h;

@@ -5,8 +5,8 @@ use Rattle.protocol.specs.State.{new_core}
 
 -- the one of number i went on by a call; or there is none of that number, and neither they nor the outbox change
 abbrev pub Answered : {X R O : Type 0} → List X → List X → O → O → ℕ → (X → R → X → Type 0) → Option R → Type 0
-Answered before after outbox outbox-after i call None = (length before ≤ i) × (after ≡ before) × (outbox-after ≡ outbox)
-Answered {X} before after outbox outbox-after i call (Some r) = (i < length before) × ((d : X) → call (slice_index_or before i d) r (slice_index_or after i d))
+Answered before after outbox outbox_after i call None = (length before ≤ i) × (after ≡ before) × (outbox_after ≡ outbox)
+Answered {X} before after outbox outbox_after i call (Some r) = (i < length before) × ((d : X) → call (slice_index_or before i d) r (slice_index_or after i d))
 
 -- no other changes
 abbrev pub Only : {X : Type 0} → List X → List X → ℕ → Type 0
@@ -21,8 +21,8 @@ abbrev pub Numbered : {X : Type 0} → List X → ℕ → (ℕ → X → Type 0)
 Numbered {X} xs n is = (length xs ≡ n) × ((k : ℕ) (d : X) → k < n → is k (slice_index_or xs k d))
 
 -- x is the one of number i
-abbrev pub Is_at : {X : Type 0} → List X → ℕ → X → Type 0
-Is_at {X} xs i x = (d : X) → x ≡ slice_index_or xs i d
+abbrev pub IsAt : {X : Type 0} → List X → ℕ → X → Type 0
+IsAt {X} xs i x = (d : X) → x ≡ slice_index_or xs i d
 
 -- the core, digest and application of a controller that is new: of this number, in a house of n, with this digest and this start
 pub record New {D A : Type 0} (n own : ℕ) (digest : D) (start : A) (core : Core) (d : D) (a : A) : Type 0 where

@@ -1,6 +1,6 @@
 // The controllers of a house, by their numbers.
 ghost use Rattle.std.specs.Prelude.{◌≡◌, ◌<◌, ◌≤◌, vec_len, MatchOption};
-ghost use Rattle.house.specs.Members.{Is_at};
+ghost use Rattle.house.specs.Members.{IsAt};
 
 use application::interface::Application;
 use controller::controller::Controller;
@@ -22,7 +22,7 @@ impl<D: Digest, A: Application> Members<D, A> {
 
     // The controller of a number.
     pub fn member(&self, i: usize) -> Option<&Controller<D, A>>
-        ensures { MatchOption result (vec_len self.now.controllers ≤ i) (λ k. (i < vec_len self.now.controllers) × Is_at self.now.controllers.items i k.now) }
+        ensures { MatchOption result (vec_len self.now.controllers ≤ i) (λ k. (i < vec_len self.now.controllers) × IsAt self.now.controllers.items i k.now) }
     {
         if i >= self.len() {
             return None;

@@ -1,5 +1,5 @@
 -- The votes for a digest, signer by signer.
-use Rattle.std.proofs.Common.{◌≡◌, ℕ, suc, ◌+◌, ◌-◌, ◌<◌, ◌≤◌, min, Bool, true, false, not, List, [], ◌∷◌, ◌++◌, length, get_or, take, set, replicate, Some, None, Option, sym, refl, ap, ◌∙◌, append_assoc, append-nil, arith}
+use Rattle.std.proofs.Common.{◌≡◌, ℕ, suc, ◌+◌, ◌-◌, ◌<◌, ◌≤◌, min, Bool, true, false, not, List, [], ◌∷◌, ◌++◌, length, get_or, is_some, take, set, replicate, Some, None, Option, sym, refl, ap, ◌∙◌, append_assoc, append-nil, arith}
 use Rattle.std.proofs.lemmas.List.{take_more, take_at, set_at, length-append, length-take-le}
 use Rattle.wire.specs.declared.records.DigestValue.{DigestValue}
 use Rattle.table.specs.declared.records.Ballot.{Ballot}
@@ -79,3 +79,6 @@ flip true true e = e
 flip true false e = refl
 flip false true e = refl
 flip false false e = e
+
+pub none_told : {A : Type 0} (o p : Option A) (r : Bool) → o ≡ p → is_some o ≡ not r → r ≡ not (is_some p)
+none_told o p r e h = flip (is_some o) r h ∙ ap (λ z. not (is_some z)) e

@@ -23,7 +23,7 @@ deliver_ready-progress-requires g c =
     let passed = ap (λ (p : Progress). p.passed) none in
     record {
       stable = omega (arith, ap (λ (k : Core). k.table.stable) first.ensures.reached.core, sound.0);
-      low = one_low g.A.Application.next g.A.Application.marked core c.args.self.now.app c.args.requests.now c.args.outbox.now c.none-none.result first.new.core first.new.app first.new.outbox first.result may.2 first.ensures.reached;
+      low = one_low g.A.Application.next g.A.Application.marked core c.args.self.now.app _ c.args.outbox.now c.none-none.result first.new.core first.new.app first.new.outbox first.result may.2 first.ensures.reached;
       room = omega (arith, may.1, more.0, issued, first.auto.outbox);
       begun = (omega (arith, more.0), omega (arith, more.1), omega (arith, more.2), omega (arith, more.3));
     }

@@ -10,21 +10,21 @@ use Rattle.controller.proofs.controller.Controller.supply.Goals as goal
 
 pub accept_supply-requires : goal.accept_supply-requires
 accept_supply-requires g c =
-    (supply_may (g.D.Digest.value c.args.self.now.digest) c.args.self.now.core c.args.outbox.now c.args.number c.args.requests.now c.in-None.ensures).0
+    omega (arith, (supply_may (g.D.Digest.value c.args.self.now.digest) c.args.self.now.core c.args.outbox.now c.args.number c.args.requests.now c.in-None.ensures).0)
 
 pub deliver_ready-progress-requires : goal.deliver_ready-progress-requires
 deliver_ready-progress-requires g c =
     let may = supply_may (g.D.Digest.value c.args.self.now.digest) c.args.self.now.core c.args.outbox.now c.args.number c.args.requests.now c.in-None.ensures in
     let sound = c.args.self.now.sound in
     let is = c.accept_supply.ensures in
-    let t = supply_tame c.args.self.now.core c.args.number c.args.requests.now sound in
+    let t : Tame c.accept_supply.new.core.table = subst (λ (k : Core). Tame k.table) (sym is) (supply_tame c.args.self.now.core c.args.number _ sound) in
     let none = c.none.ensures in
     let issued = ap (λ (p : Progress). p.issued) none in
     let batches = ap (λ (p : Progress). p.batches) none in
     let applied = ap (λ (p : Progress). p.applied) none in
     let passed = ap (λ (p : Progress). p.passed) none in
     record {
-      stable = omega (arith, ap (λ (k : Core). k.table.stable) is, t.stable);
+      stable = omega (arith, t.stable);
       low = omega (arith, ap (λ (k : Core). k.delivered) is, sound.1);
       room = omega (arith, issued, may.1);
       begun = (omega arith, omega arith, omega arith, omega arith);
@@ -32,11 +32,11 @@ deliver_ready-progress-requires g c =
 
 pub invariant_of-self-in-None : goal.invariant_of-self-in-None
 invariant_of-self-in-None g c =
-    let t = supply_tame c.args.self.now.core c.args.number c.args.requests.now c.args.self.now.sound in
+    let t : Tame c.accept_supply.new.core.table = subst (λ (k : Core). Tame k.table) (sym c.accept_supply.ensures) (supply_tame c.args.self.now.core c.args.number _ c.args.self.now.sound) in
     let start = begin g.A.Application.next g.A.Application.marked c.accept_supply.new.core c.args.self.now.app [] in
     record {
       sound = flow_sound g.A.Application.next g.A.Application.marked c.accept_supply.new.core (deliver_ready g.A.Application.next g.A.Application.marked 32 c.accept_supply.new.core start)
-          c.deliver_ready-progress.new.core c.deliver_ready-progress.ensures.reached.core (subst (λ (k : Core). Tame k.table) (sym c.accept_supply.ensures) t) c.deliver_ready-progress.ensures.low;
+          c.deliver_ready-progress.new.core c.deliver_ready-progress.ensures.reached.core t c.deliver_ready-progress.ensures.low;
     }
 
 pub returns-in-None : goal.returns-in-None
