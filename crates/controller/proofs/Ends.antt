@@ -5,10 +5,10 @@ use Rattle.wire.specs.declared.records.DigestValue.{DigestValue}
 use Rattle.wire.specs.declared.records.Statement.{Statement}
 use Rattle.wire.specs.declared.records.Sealed.{Sealed}
 use Rattle.wire.specs.declared.records.Request.{Request}
+use Rattle.wire.specs.declared.records.Batch.{Batch}
 use Rattle.wire.specs.Values.{value_of}
-use Rattle.wire.specs.Frames.{stored}
 use Rattle.table.specs.Places.{supplied}
-use Rattle.table.specs.Window.{in_window, place_at}
+use Rattle.table.specs.Window.{in_window, place_at, supply_at}
 use Rattle.group.specs.Group.{commits_fault}
 use Rattle.protocol.specs.declared.records.Core.{Core}
 use Rattle.protocol.specs.declared.records.Answer.{Answer}
@@ -23,7 +23,7 @@ use Rattle.protocol.specs.Offer.{no_batch_of}
 use Rattle.protocol.specs.Supply.{supply_refusal}
 use Rattle.protocol.specs.Prove.{proved_digest, prove_refusal}
 use Rattle.controller.specs.Sound.{Sound}
-use Rattle.controller.specs.Agree.{Agrees, Reached, core_after, progress_after, written_at, answered, no_progress, supply_core}
+use Rattle.controller.specs.Agree.{Agrees, Reached, core_after, progress_after, written_at, answered, no_progress}
 use Rattle.controller.proofs.Kept.{Tame, tame_with}
 use Rattle.controller.proofs.Passes.{passes, both_pass, roomy, no_more, tame}
 use Rattle.controller.proofs.Flows.{one_number}
@@ -93,9 +93,9 @@ supply_may value c outbox s rs e =
     let f = passes (no_batch_of value (unwrap_or p.proposal (value_of 0)) rs) BadBatch _ d.1 in
     (no_more value (unwrap_or p.proposal (value_of 0)) rs f.0, roomy outbox a.0)
 
-pub supply_tame : (c : Core) (s : ℕ) (rs : List Request) → Sound c → Tame (supply_core c s rs).table
-supply_tame c s rs h =
-    tame_with c.table s (supplied (stored rs) (place_at c.table s)) (tame c h) (h.3 (s - c.table.stable - 1))
+pub supply_tame : (c : Core) (s : ℕ) (b : Batch) → Sound c → Tame (supply_at c.table s b)
+supply_tame c s b h =
+    tame_with c.table s (supplied b (place_at c.table s)) (tame c h) (h.3 (s - c.table.stable - 1))
 
 -- PROVE
 

@@ -5,7 +5,7 @@ use Rattle.wire.specs.declared.records.DigestValue.{DigestValue}
 use Rattle.wire.specs.declared.records.Statement.{Statement}
 use Rattle.wire.specs.declared.records.Sealed.{Sealed}
 use Rattle.wire.specs.declared.records.Request.{Request}
-use Rattle.wire.specs.Frames.{stored}
+use Rattle.wire.specs.declared.records.Batch.{Batch}
 use Rattle.quorum.specs.declared.house.House.{House}
 use Rattle.table.specs.Places.{filled}
 use Rattle.protocol.specs.declared.refusal.Refusal.TheVariants.{Room, Signer, Kind, Epoch, Number, Authority, Standing, Batch as BadBatch}
@@ -21,7 +21,7 @@ use Rattle.protocol.specs.State.{size, with_table, new_core}
 use Rattle.protocol.specs.Call.{cramped}
 use Rattle.protocol.specs.Change.{last_epoch, undelivered, after_last, turned, turn_refusal}
 use Rattle.controller.specs.Sound.{Sound}
-use Rattle.controller.specs.Agree.{turn_core, offer_core}
+use Rattle.controller.specs.Agree.{turn_core}
 use Rattle.controller.proofs.Kept.{few_empty, entered_none, few_entered, Tame, tame_with}
 
 pub passes : (b : Bool) (r : Refusal) (o : Option Refusal) → None ≡ cond b (Some r) o → (b ≡ false) × (None ≡ o)
@@ -86,11 +86,11 @@ tame c h = record { stable = h.0; proof = h.2; few = h.3 }
 pub sound_with : (c : Core) (t : Table) → Sound c → Tame t → Sound (with_table c t)
 sound_with c t h k = (k.stable, h.1, k.proof, k.few)
 
-pub offer_sound : (c : Core) (p : Sealed) (rs : List Request) → Sound c → Sound (offer_core c p rs)
-offer_sound c p rs h =
+pub offer_sound : (c : Core) (p : Sealed) (b : Batch) → Sound c → Sound (with_table c (fill_at c.table p.statement.number p.statement.digest (Some b)))
+offer_sound c p b h =
     let s = p.statement.number in
-    sound_with c (fill_at c.table s p.statement.digest (Some (stored rs))) h
-    (tame_with c.table s (filled p.statement.digest (Some (stored rs)) (place_at c.table s)) (tame c h) (h.3 (s - c.table.stable - 1)))
+    sound_with c (fill_at c.table s p.statement.digest (Some b)) h
+    (tame_with c.table s (filled p.statement.digest (Some b) (place_at c.table s)) (tame c h) (h.3 (s - c.table.stable - 1)))
 
 pub new_sound : (h : House) → Sound (new_core h)
 unfolding new_table
