@@ -1,6 +1,6 @@
 # demo: proves what the programs need, then runs them on the examples that stand beside them
 # replay: plays the recorded run that stands beside the program
-# test: the gate, everything proved from nothing
+# test: the gate
 .PHONY: demo replay test
 
 play = cd crates/$(1) && mkdir -p out && { rt run < stdin 2> out/run.log || { tail -20 out/run.log; exit 1; }; }
