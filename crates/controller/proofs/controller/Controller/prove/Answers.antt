@@ -9,24 +9,20 @@ use Rattle.controller.proofs.Flows.{goes_on}
 use Rattle.controller.proofs.Ends.{prove_may, one_low, delivered_agrees}
 use Rattle.controller.proofs.controller.Controller.prove.Goals as goal
 
-pub deliver_ready-progress-requires : goal.deliver_ready-progress-requires
-deliver_ready-progress-requires g c =
+pub deliver_ready-progress-requires-clause-stable : goal.deliver_ready-progress-requires-clause-stable
+deliver_ready-progress-requires-clause-stable g c = omega (arith, ap (λ (k : Core). k.table.stable) c.deliver_one-first.ensures.reached.core, c.args.self.now.sound.0)
+
+pub deliver_ready-progress-requires-clause-low : goal.deliver_ready-progress-requires-clause-low
+deliver_ready-progress-requires-clause-low g c =
     let core = c.args.self.now.core in
     let may = prove_may (g.C.SealChecker.accepts c.args.checker.now) (g.D.Digest.value c.args.self.now.digest) core c.args.outbox.now c.args.number c.args.requests.now c.args.commits.now c.in-None.ensures in
-    let sound = c.args.self.now.sound in
     let first = c.deliver_one-first in
-    let more = first.ensures.more in
-    let none = c.none-none.ensures in
-    let issued = ap (λ (p : Progress). p.issued) none in
-    let batches = ap (λ (p : Progress). p.batches) none in
-    let applied = ap (λ (p : Progress). p.applied) none in
-    let passed = ap (λ (p : Progress). p.passed) none in
-    record {
-      stable = omega (arith, ap (λ (k : Core). k.table.stable) first.ensures.reached.core, sound.0);
-      low = one_low g.A.Application.next g.A.Application.marked core c.args.self.now.app _ c.args.outbox.now c.none-none.result first.new.core first.new.app first.new.outbox first.result may.2 first.ensures.reached;
-      room = omega (arith, may.1, more.0, issued, first.auto.outbox);
-      begun = (omega (arith, more.0), omega (arith, more.1), omega (arith, more.2), omega (arith, more.3));
-    }
+    one_low g.A.Application.next g.A.Application.marked core c.args.self.now.app _ c.args.outbox.now c.none-none.result first.new.core first.new.app first.new.outbox first.result may.2 first.ensures.reached
+
+pub deliver_ready-progress-requires-clause-room : goal.deliver_ready-progress-requires-clause-room
+deliver_ready-progress-requires-clause-room g c =
+    let may = prove_may (g.C.SealChecker.accepts c.args.checker.now) (g.D.Digest.value c.args.self.now.digest) c.args.self.now.core c.args.outbox.now c.args.number c.args.requests.now c.args.commits.now c.in-None.ensures in
+    grind (arith, may.1)
 
 pub returns-in-None : goal.returns-in-None
 returns-in-None g c =

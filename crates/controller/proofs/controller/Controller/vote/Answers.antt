@@ -11,24 +11,19 @@ use Rattle.controller.proofs.Votings.{vote_room, vote_tame, vote_few, voted_reac
 use Rattle.controller.proofs.Ends.{flow_sound, delivered_agrees}
 use Rattle.controller.proofs.controller.Controller.vote.Goals as goal
 
-pub deliver_ready-progress-requires : goal.deliver_ready-progress-requires
-deliver_ready-progress-requires g c =
-    let core = c.args.self.now.core in
-    let accepts = g.C.SealChecker.accepts c.args.checker.now in
-    let room = vote_room accepts core c.args.outbox.now c.args.vote.now c.in-None.ensures in
-    let t = vote_tame accepts core c.args.outbox.now c.args.vote.now c.in-None.ensures c.args.self.now.sound in
-    let few = vote_few core c.args.vote.now in
-    let is = c.accept_vote-issued.ensures in
-    let issued = ap (λ (p : Progress). p.issued) is.progress in
-    let batches = ap (λ (p : Progress). p.batches) is.progress in
-    let applied = ap (λ (p : Progress). p.applied) is.progress in
-    let passed = ap (λ (p : Progress). p.passed) is.progress in
-    record {
-      stable = omega (arith, ap (λ (k : Core). k.table.stable) is.core, t.stable);
-      low = omega (arith, ap (λ (k : Core). k.delivered) is.core, c.args.self.now.sound.1);
-      room = omega (arith, issued, few, room, c.accept_vote-issued.auto.outbox);
-      begun = (omega (arith, few, issued), omega (arith, batches), omega (arith, applied), omega (arith, passed));
-    }
+pub deliver_ready-progress-requires-clause-stable : goal.deliver_ready-progress-requires-clause-stable
+deliver_ready-progress-requires-clause-stable g c =
+    let t = vote_tame (g.C.SealChecker.accepts c.args.checker.now) c.args.self.now.core c.args.outbox.now c.args.vote.now c.in-None.ensures c.args.self.now.sound in
+    omega (arith, ap (λ (k : Core). k.table.stable) c.accept_vote-issued.ensures.core, t.stable)
+
+pub deliver_ready-progress-requires-clause-low : goal.deliver_ready-progress-requires-clause-low
+deliver_ready-progress-requires-clause-low g c = omega (arith, ap (λ (k : Core). k.delivered) c.accept_vote-issued.ensures.core, c.args.self.now.sound.1)
+
+pub deliver_ready-progress-requires-clause-room : goal.deliver_ready-progress-requires-clause-room
+deliver_ready-progress-requires-clause-room g c =
+    let room = vote_room (g.C.SealChecker.accepts c.args.checker.now) c.args.self.now.core c.args.outbox.now c.args.vote.now c.in-None.ensures in
+    let few = vote_few c.args.self.now.core c.args.vote.now in
+    grind (arith, room, few)
 
 pub invariant_of-self : goal.invariant_of-self
 invariant_of-self g c =
