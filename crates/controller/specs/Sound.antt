@@ -14,6 +14,6 @@ held_votes (Some k) = k.prepares.count
 abbrev pub Few : List Place → Type 0
 Few ps = (i : ℕ) → held_votes (slice_index_or ps i past).certificate ≤ 11
 
--- the stable number is within the limit, what is delivered at most 32 above it, and no quorum has more than 11 votes
+-- the stable number is within the limit, what is delivered at most 32 above the limit, and no quorum has more than 11 votes
 abbrev pub Sound : Core → Type 0
 Sound c = (c.table.stable ≤ 1000000000000) × (c.delivered ≤ 1000000000032) × (c.table.proof.count ≤ 11) × Few c.table.places
