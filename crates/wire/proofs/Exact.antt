@@ -8,7 +8,9 @@ use Rattle.wire.specs.declared.records.Request.{Request}
 use Rattle.wire.specs.declared.records.Batch.{Batch}
 use Rattle.wire.specs.declared.faults.FrameFault.{FrameFault}
 use Rattle.wire.specs.Bytes.{Bytes}
-use Rattle.wire.specs.Frames.{sealed_at, sealed_frame, requests_in, stored, requests_of, no_request, batch_head, batch_frame, request_bytes, request_at, fault, unknown_kind}
+use Rattle.wire.specs.Frames.{sealed_at, sealed_frame, requests_in, stored, requests_of, no_request, batch_head, batch_frame, request_bytes, request_at, fault}
+use Rattle.wire.specs.Kinds.{kind_of, unknown}
+use Rattle.wire.proofs.KindBytes.{byte_back}
 use Rattle.wire.specs.Laws.{SealedIsFrame, BatchIsFrame}
 use Rattle.wire.proofs.Numbers.{first_listed, four_bytes, eight_bytes}
 use Rattle.wire.proofs.Places.{length-requests}
@@ -33,7 +35,7 @@ ok_is x y e = cc
 sealed_body : (kind : ℕ) (bs : List ℕ) → Bytes bs → 33 ≤ length bs → 0 ∷ 35 ∷ 1 ∷ kind ∷ bs ≡ sealed_frame (sealed_at kind bs) ++ drop 33 bs
 sealed_body kind bs h e =
     ap (λ l. 0 ∷ 35 ∷ 1 ∷ kind ∷ l) (first_listed 33 bs e)
-    ∙ sym (λ z. 0 ∷ 35 ∷ 1 ∷ kind ∷ get_or bs 0 0 ∷ ((four_bytes bs 1 h z ++ (eight_bytes bs 5 h z ++ (four_bytes bs 13 h z ++ (eight_bytes bs 17 h z ++ eight_bytes bs 25 h z)))) ++ drop 33 bs))
+    ∙ sym (λ z. 0 ∷ 35 ∷ 1 ∷ byte_back kind z ∷ get_or bs 0 0 ∷ ((four_bytes bs 1 h z ++ (eight_bytes bs 5 h z ++ (four_bytes bs 13 h z ++ (eight_bytes bs 17 h z ++ eight_bytes bs 25 h z)))) ++ drop 33 bs))
 
 pub sealed_exact : SealedIsFrame
 sealed_exact [] s rest h e = absurd (never 2 _ e)
@@ -42,7 +44,7 @@ sealed_exact (a ∷ b ∷ []) s rest h e = absurd (never 2 _ e)
 sealed_exact (a ∷ b ∷ v ∷ []) s rest h e = absurd (short (eqb v 1) _ e)
 sealed_exact (a ∷ b ∷ v ∷ k ∷ bs) s rest h e =
     let p = passed (not (eqb v 1)) 2 _ (s, rest) e in
-    let q = passed (unknown_kind k) 3 _ (s, rest) p.1 in
+    let q = passed (unknown (kind_of k)) 3 _ (s, rest) p.1 in
     let r = passed (not (eqb (a * 256 + b) 35)) 0 _ (s, rest) q.1 in
     let t = passed (ltb (length bs) 33) (4 + length bs) _ (s, rest) r.1 in
     let is = ok_is (sealed_at k bs, drop 33 bs) (s, rest) t.1 in

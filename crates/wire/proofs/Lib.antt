@@ -4,3 +4,4 @@ pub mod Puts
 pub mod Numbers
 pub mod Trips
 pub mod Exact
+pub mod KindBytes

@@ -1,16 +1,12 @@
 -- What writes into a buffer leave.
-use Rattle.std.proofs.Common.{◌≡◌, ℕ, ◌+◌, ◌-◌, ◌*◌, ◌<◌, ◌≤◌, min, false, ltb, ◌⊎◌, List, [], ◌∷◌, ◌++◌, length, get_or, take, drop, replicate, Ok, sym, refl, ap, ◌∙◌, inl, inr, arith}
+use Rattle.std.proofs.Common.{◌≡◌, ℕ, ◌+◌, ◌-◌, ◌*◌, ◌<◌, ◌≤◌, min, ltb, ◌⊎◌, List, [], ◌∷◌, ◌++◌, length, get_or, take, drop, replicate, Ok, sym, refl, ap, ◌∙◌, inl, inr, arith}
 use Rattle.std.specs.List.{flat_map}
 use Rattle.std.proofs.lemmas.List.{places, same_lists, length-append, length-drop, length-take, length-take-le, take-append-drop, take_more, flat_map_more, drop-replicate, length-replicate, drop_all, take_at}
 use Rattle.std.proofs.lemmas.Bool.{cond-false, le-ltb, cases_lt}
-use Rattle.wire.specs.declared.records.Sealed.{Sealed}
 use Rattle.wire.specs.declared.records.Request.{Request}
 use Rattle.wire.specs.declared.frame.BatchFrame.{BatchFrame}
 use Rattle.wire.specs.Bytes.{put_over}
-use Rattle.wire.specs.Frames.{unknown_kind, sealed_frame, write_sealed, request_bytes, batch_head, batch_frame, buffered, write_batch, store_batch, no_request, body_bytes, batch_body}
-
-pub sealed_written : (s : Sealed) (f : List ℕ) → f ≡ sealed_frame s → unknown_kind s.statement.kind ≡ false → Ok f ≡ write_sealed s
-sealed_written s f e k = ap Ok e ∙ sym (cond-false (unknown_kind s.statement.kind) _ _ k)
+use Rattle.wire.specs.Frames.{request_bytes, batch_head, batch_frame, buffered, write_batch, store_batch, no_request, body_bytes, batch_body}
 
 pub length-joined : (rs : List Request) → length (flat_map request_bytes rs) ≡ 21 * length rs
 length-joined [] = refl

@@ -2,27 +2,30 @@
 use Rattle.std.proofs.Common.{◌≡◌, ℕ, suc, ◌+◌, ◌*◌, ◌/◌, ◌%◌, ◌≤◌, false, not, eqb, ltb, List, [], ◌∷◌, ◌++◌, length, get_or, drop, Ok, refl, ap, ◌∙◌, arith}
 use Rattle.std.specs.List.{flat_map}
 use Rattle.std.proofs.lemmas.List.{drop_at, length-append}
-use Rattle.std.proofs.lemmas.Bool.{cond-false, or_from, ne_eqb, eq-eqb, le-ltb}
+use Rattle.std.proofs.lemmas.Bool.{cond-false, eq-eqb, le-ltb}
 use Rattle.wire.specs.declared.records.Request.{Request}
-use Rattle.wire.specs.Frames.{unknown_kind, sealed_frame, sealed_at, sealed_after, requests_in, stored, batch_rest, request_bytes, no_request}
+use Rattle.wire.specs.Frames.{sealed_frame, sealed_at, sealed_after, requests_in, stored, batch_rest, request_bytes, no_request}
 use Rattle.wire.specs.Laws.{Fitting, SealedReadsBack, BatchReadsBack}
+use Rattle.wire.specs.Kinds.{kind_of, byte_of, unknown}
+use Rattle.wire.proofs.KindBytes.{kind_back}
 use Rattle.wire.proofs.Numbers.{four_back, eight_back}
 use Rattle.wire.proofs.Puts.{length-joined}
 
-sealed_passes : (kind : ℕ) (bs : List ℕ) → unknown_kind kind ≡ false → 33 ≤ length bs → sealed_after 35 1 kind bs ≡ Ok (sealed_at kind bs, drop 33 bs)
-sealed_passes kind bs k h = cond-false (unknown_kind kind) _ _ k ∙ cond-false (ltb (length bs) 33) _ _ (le-ltb (length bs) 33 h)
+sealed_passes : (kind : ℕ) (bs : List ℕ) → unknown (kind_of kind) ≡ false → 33 ≤ length bs → sealed_after 35 1 kind bs ≡ Ok (sealed_at kind bs, drop 33 bs)
+sealed_passes kind bs k h = cond-false (unknown (kind_of kind)) _ _ k ∙ cond-false (ltb (length bs) 33) _ _ (le-ltb (length bs) 33 h)
 
 pub sealed_back : SealedReadsBack
 sealed_back s rest f =
     let st = s.statement in
-    let known : unknown_kind st.kind ≡ false = or_from (eqb st.kind 0) (ltb 8 st.kind) (ne_eqb st.kind 0 (λ e. omega (arith, e, f.some))) (le-ltb 8 st.kind f.known) in
+    let is = kind_back st.kind f.known in
+    let known : unknown (kind_of (byte_of st.kind)) ≡ false = ap unknown is ∙ f.known in
     let tail : List ℕ = drop 4 (sealed_frame s ++ rest) in
     let long : 33 ≤ length tail = omega arith in
-    sealed_passes st.kind tail known long
+    sealed_passes (byte_of st.kind) tail known long
     ∙ (λ i. Ok (
       record {
         statement = record {
-          kind = st.kind;
+          kind = is i;
           signer = st.signer;
           epoch = four_back st.epoch f.epoch i;
           number = eight_back st.number f.number i;

@@ -1,6 +1,6 @@
 -- The one frame of a sealed statement and of a batch. A frame opens with a two-byte length of what follows it, the version 1 and
 -- a kind byte. All numbers are big-endian.
-use Rattle.std.specs.Prelude.{◌≡◌, ℕ, zero, suc, ◌+◌, ◌-◌, ◌*◌, ◌/◌, ◌%◌, Bool, cond, not, ◌||◌, List, [], ◌∷◌, ◌++◌, length, take, drop, replicate, Ok, Err, Result, ◌==◌, nat_lt, slice_index}
+use Rattle.std.specs.Prelude.{◌≡◌, ℕ, zero, suc, ◌+◌, ◌-◌, ◌*◌, ◌/◌, ◌%◌, cond, not, List, [], ◌∷◌, ◌++◌, length, take, drop, replicate, Ok, Err, Result, ◌==◌, nat_lt, slice_index}
 use Rattle.std.specs.Borrow.{Bor}
 use Prim.Native.Nat as nat
 use Rattle.std.specs.List.{flat_map}
@@ -12,24 +12,22 @@ use Rattle.wire.specs.declared.faults.FrameFault.{FrameFault}
 use Rattle.wire.specs.declared.faults.WriteFault.{WriteFault}
 use Rattle.wire.specs.declared.faults.WriteFault.TheVariants.{UnknownKind, TooMany}
 use Rattle.wire.specs.declared.frame.BatchFrame.{BatchFrame}
+use Rattle.wire.specs.declared.reading.Header.{Header}
+use Rattle.wire.specs.Kinds.{kind_of, byte_of, unknown}
 use Rattle.wire.specs.Bytes.{bytes4, bytes8, four_at, eight_at}
 
 -- WRITING
 
--- no statement has a kind outside 1 to 8
-abbrev pub unknown_kind : ℕ → Bool
-unknown_kind kind = kind == 0 || nat_lt 8 kind
-
 -- a statement's 26 bytes: kind, signer, epoch, number, held epoch, digest
 abbrev pub statement_bytes : Statement → List ℕ
-statement_bytes s = s.kind ∷ s.signer ∷ (bytes4 s.epoch ++ (bytes8 s.number ++ (bytes4 s.held ++ bytes8 s.digest.word)))
+statement_bytes s = byte_of s.kind ∷ s.signer ∷ (bytes4 s.epoch ++ (bytes8 s.number ++ (bytes4 s.held ++ bytes8 s.digest.word)))
 
 -- 37 bytes; the statement's kind is the frame's
 abbrev pub sealed_frame : Sealed → List ℕ
 sealed_frame s = 0 ∷ 35 ∷ 1 ∷ (statement_bytes s.statement ++ bytes8 s.seal)
 
 abbrev pub write_sealed : Sealed → Result (List ℕ) WriteFault
-write_sealed s = cond (unknown_kind s.statement.kind) (Err (UnknownKind s.statement.kind)) (Ok (sealed_frame s))
+write_sealed s = cond (unknown s.statement.kind) (Err (UnknownKind (byte_of s.statement.kind))) (Ok (sealed_frame s))
 
 -- a request's 21 bytes: client, timestamp, payload, seal
 abbrev pub request_bytes : Request → List ℕ
@@ -79,17 +77,17 @@ requests_of b = take (nat.min b.count 16) b.requests
 abbrev pub fault : {X : Type 0} → ℕ → Result X FrameFault
 fault p = Err (record { place = p })
 
--- a statement's fields after the kind, and the seal
+-- a statement by its kind byte and the bytes after it: its fields, and the seal
 abbrev pub sealed_at : ℕ → List ℕ → Sealed
 sealed_at kind bs = record {
-  statement = record { kind = kind; signer = slice_index bs 0; epoch = four_at bs 1; number = eight_at bs 5; held = four_at bs 13; digest = record { word = eight_at bs 17 } };
+  statement = record { kind = kind_of kind; signer = slice_index bs 0; epoch = four_at bs 1; number = eight_at bs 5; held = four_at bs 13; digest = record { word = eight_at bs 17 } };
   seal = eight_at bs 25;
 }
 
 abbrev pub sealed_after : ℕ → ℕ → ℕ → List ℕ → Result (Sealed × List ℕ) FrameFault
 sealed_after long version kind bs =
     cond (not (version == 1)) (fault 2)
-    (cond (unknown_kind kind) (fault 3)
+    (cond (unknown (kind_of kind)) (fault 3)
     (cond (not (long == 35)) (fault 0)
     (cond (nat_lt (length bs) 33) (fault (4 + length bs)) (Ok (sealed_at kind bs, drop 33 bs)))))
 
@@ -100,6 +98,9 @@ opened after (a ∷ []) = fault 2
 opened after (a ∷ b ∷ []) = fault 2
 opened after (a ∷ b ∷ version ∷ []) = cond (version == 1) (fault 3) (fault 2)
 opened after (a ∷ b ∷ version ∷ kind ∷ bs) = after (a * 256 + b) version kind bs
+
+abbrev pub header_of : List ℕ → Result (Header × List ℕ) FrameFault
+header_of bs = opened (λ long version kind rest. Ok (record { long = long; version = version; kind = kind }, rest)) bs
 
 abbrev pub take_sealed : List ℕ → Result (Sealed × List ℕ) FrameFault
 take_sealed bs = opened sealed_after bs

@@ -1,15 +1,16 @@
 -- Each record has one frame: what is written reads back as it was, and bytes that read as a record are its writing.
-use Rattle.std.specs.Prelude.{◌≡◌, ℕ, ◌<◌, ◌≤◌, List, ◌++◌, length, Ok, slice_index_or}
+use Rattle.std.specs.Prelude.{◌≡◌, ℕ, ◌<◌, ◌≤◌, false, Decides, List, ◌++◌, length, Ok, slice_index_or}
 use Rattle.wire.specs.declared.records.Sealed.{Sealed}
 use Rattle.wire.specs.declared.records.Request.{Request}
 use Rattle.wire.specs.declared.records.Batch.{Batch}
+use Rattle.wire.specs.declared.kinds.Kind.{Kind}
+use Rattle.wire.specs.Kinds.{kind_of, byte_of, same_kind, unknown}
 use Rattle.wire.specs.Bytes.{Bytes}
 use Rattle.wire.specs.Frames.{sealed_frame, take_sealed, batch_frame, take_batch, stored, requests_of, no_request}
 
 -- each field within its width, and a kind that a statement has
 pub record Fitted (s : Sealed) : Type 0 where
-  pub some : 0 < s.statement.kind
-  pub known : s.statement.kind ≤ 8
+  pub known : unknown s.statement.kind ≡ false
   pub epoch : s.statement.epoch < 4294967296
   pub number : s.statement.number < 18446744073709551616
   pub held : s.statement.held < 4294967296
@@ -36,3 +37,12 @@ SealedIsFrame = (bs : List ℕ) (s : Sealed) (rest : List ℕ) → Bytes bs → 
 abbrev pub BatchIsFrame : Type 0
 BatchIsFrame =
     (bs : List ℕ) (b : Batch) (rest : List ℕ) → Bytes bs → take_batch bs ≡ Ok (b, rest) → bs ≡ batch_frame (requests_of b) ++ rest
+
+-- each byte is that of its kind, and a kind that statements have is that of its byte
+pub record KindsReadBack : Type 0 where
+  pub bytes : (byte : ℕ) → byte_of (kind_of byte) ≡ byte
+  pub kinds : (kind : Kind) → unknown kind ≡ false → kind_of (byte_of kind) ≡ kind
+
+-- the test of kinds decides equality
+abbrev pub SameKinds : Type 0
+SameKinds = (a b : Kind) → Decides (same_kind a b) (a ≡ b)

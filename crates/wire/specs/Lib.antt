@@ -1,4 +1,5 @@
 pub mod Bytes
+pub mod Kinds
 pub mod Values
 pub mod Frames
 pub mod Laws

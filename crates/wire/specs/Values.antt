@@ -2,7 +2,8 @@
 use Rattle.std.specs.Prelude.{ℕ, Bool, ◌==◌}
 use Rattle.wire.specs.declared.records.DigestValue.{DigestValue}
 use Rattle.wire.specs.declared.records.Statement.{Statement}
-use Rattle.wire.specs.declared.records.Request.{Request}
+use Rattle.wire.specs.declared.records.Request.{Request as Order}
+use Rattle.wire.specs.declared.kinds.Kind.TheVariants.{Request}
 
 -- the digest value that stands for a number (a payload, a mark, a leader set), and the number that a value ends with
 abbrev pub value_of : ℕ → DigestValue
@@ -15,6 +16,6 @@ number_of d = d.word
 unfoldable pub same_digest : DigestValue → DigestValue → Bool
 same_digest a b = a.word == b.word
 
--- what a client says by a request: kind 1, the client as signer, the timestamp as number, the payload as digest
-abbrev pub request_statement : Request → Statement
-request_statement r = record { kind = 1; signer = r.client; epoch = 0; number = r.timestamp; held = 0; digest = value_of r.payload }
+-- what a client says by a request: the client as signer, the timestamp as number, the payload as digest
+abbrev pub request_statement : Order → Statement
+request_statement r = record { kind = Request; signer = r.client; epoch = 0; number = r.timestamp; held = 0; digest = value_of r.payload }

@@ -1,15 +1,16 @@
 // The records that are sent and kept.
+use crate::kinds::Kind;
 
 // A digest, or a number that stands in a digest's place: a payload, a mark, a leader set.
-#[derive(Clone, Copy)]
+#[derive(Clone, Copy, Debug, PartialEq, Eq)]
 pub struct DigestValue {
     pub word: u64,
 }
 
 // What a controller or a client says. A field that its kind does not use is 0.
-#[derive(Clone, Copy)]
+#[derive(Clone, Copy, PartialEq, Eq, Debug)]
 pub struct Statement {
-    pub kind: u8,
+    pub kind: Kind,
     pub signer: u8,
     pub epoch: u32,
     pub number: u64,
@@ -19,14 +20,14 @@ pub struct Statement {
 }
 
 // A statement under its signer's seal.
-#[derive(Clone, Copy)]
+#[derive(Clone, Copy, PartialEq, Eq, Debug)]
 pub struct Sealed {
     pub statement: Statement,
     pub seal: u64,
 }
 
 // A client's order, under the client's seal.
-#[derive(Clone, Copy)]
+#[derive(Clone, Copy, PartialEq, Eq, Debug)]
 pub struct Request {
     pub client: u8,
     pub timestamp: u32,

@@ -1,30 +1,26 @@
 // Digest values as numbers, and the statement that a client seals.
 ghost use Rattle.std.specs.Prelude.{◌≡◌};
-ghost use Rattle.wire.specs.Values.{value_of, number_of, same_digest, request_statement};
+ghost use Rattle.wire.specs.Values.{value_of, number_of, request_statement};
 
-use crate::kinds::REQUEST;
+use crate::kinds::Kind;
 use crate::records::{DigestValue, Request, Statement};
 
-impl DigestValue {
-    // The value that stands for a payload, a mark or a leader set.
-    pub fn from_number(number: u64) -> DigestValue
-        ensures { result ≡ value_of number }
-    {
+// The value that stands for a payload, a mark or a leader set.
+impl From<u64> for DigestValue {
+    ghost from_gives = { λ number value. value ≡ value_of number };
+
+    fn from(number: u64) -> DigestValue {
         DigestValue { word: number }
     }
+}
 
+impl DigestValue {
     // The number that a value stands for.
     pub fn number(&self) -> u64
         ensures { result ≡ number_of self.now }
     {
         let DigestValue { word } = *self;
         word
-    }
-
-    pub fn equals(&self, other: &DigestValue) -> bool
-        ensures { result ≡ same_digest self.now other.now }
-    {
-        self.word == other.word
     }
 }
 
@@ -34,12 +30,12 @@ impl Request {
         ensures { result ≡ request_statement self.now }
     {
         Statement {
-            kind: REQUEST,
+            kind: Kind::Request,
             signer: self.client,
             epoch: 0,
             number: u64::from(self.timestamp),
             held: 0,
-            digest: DigestValue::from_number(self.payload),
+            digest: DigestValue::from(self.payload),
         }
     }
 }

@@ -7,6 +7,7 @@ ghost use Rattle.wire.specs.Frames.{sealed_frame, write_sealed, request_bytes, b
 use crate::bytes::put;
 use crate::faults::WriteFault;
 use crate::frame::BatchFrame;
+use crate::kinds::Kind;
 use crate::records::{Request, Sealed};
 
 fn sealed_frame(s: &Sealed) -> [u8; 37]
@@ -18,9 +19,10 @@ fn sealed_frame(s: &Sealed) -> [u8; 37]
     let [h0, h1, h2, h3] = st.held.to_be_bytes();
     let [d0, d1, d2, d3, d4, d5, d6, d7] = st.digest.word.to_be_bytes();
     let [s0, s1, s2, s3, s4, s5, s6, s7] = s.seal.to_be_bytes();
+    let kind = u8::from(st.kind);
     [
-        0, 35, 1, st.kind, st.signer, e0, e1, e2, e3, n0, n1, n2, n3, n4, n5, n6, n7, h0, h1, h2,
-        h3, d0, d1, d2, d3, d4, d5, d6, d7, s0, s1, s2, s3, s4, s5, s6, s7,
+        0, 35, 1, kind, st.signer, e0, e1, e2, e3, n0, n1, n2, n3, n4, n5, n6, n7, h0, h1, h2, h3,
+        d0, d1, d2, d3, d4, d5, d6, d7, s0, s1, s2, s3, s4, s5, s6, s7,
     ]
 }
 
@@ -28,11 +30,10 @@ fn sealed_frame(s: &Sealed) -> [u8; 37]
 pub fn write_sealed(s: &Sealed) -> Result<[u8; 37], WriteFault>
     ensures { result ≡ write_sealed s.now }
 {
-    let kind = s.statement.kind;
-    if kind == 0 || kind > 8 {
-        return Err(WriteFault::UnknownKind(kind));
+    match s.statement.kind {
+        Kind::Unknown(byte) => Err(WriteFault::UnknownKind(byte)),
+        _ => Ok(sealed_frame(s)),
     }
-    Ok(sealed_frame(s))
 }
 
 fn request_bytes(r: &Request) -> [u8; 21]
