@@ -12,12 +12,10 @@ pub fn batch_digest<D: Digest>(digest: &D, requests: &[Request]) -> Result<Diges
     ensures { result ≡ digest_batch (D.value digest.now) requests.now }
 {
     if requests.len() == 0 {
-        return Ok(DigestValue::from_number(0));
+        return Ok(DigestValue::from(0));
     }
-    match write_batch(requests) {
-        Ok(frame) => Ok(digest.digest(frame.body())),
-        Err(fault) => Err(fault),
-    }
+    let frame = write_batch(requests)?;
+    Ok(digest.digest(frame.body()))
 }
 
 // Which of the 64 buckets a request is in.

@@ -12,7 +12,7 @@ mod working;
 use crate::sha256::compress::compress;
 use crate::sha256::constants::INITIAL;
 
-// Writes `bytes` over what stands in `dest` from `at` on.
+// Writes `bytes` over what stands in `dest` from `at` on. `wire` keeps one like it to itself: in public it could ask nothing of its callers.
 fn put(dest: &mut [u8], at: usize, bytes: &[u8])
     requires { at + length bytes.now ≤ length dest.old }
     ensures { dest.new ≡ put_over dest.old at bytes.now }
@@ -41,8 +41,8 @@ fn bytes_of(hash: &[u32; 8]) -> [u8; 32]
     ensures { result ≡ flat_map bytes4 hash.now }
 {
     let mut out = [0; 32];
-    for i in 0..8 {
-        put(&mut out, i * 4, &hash[i].to_be_bytes());
+    for (i, word) in hash.iter().enumerate() {
+        put(&mut out, i * 4, &word.to_be_bytes());
     }
     out
 }

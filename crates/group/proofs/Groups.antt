@@ -5,9 +5,10 @@ use Rattle.std.proofs.lemmas.Bool.{and_parts, and_from, leb-true, ltb-true, le-l
 use Rattle.std.proofs.lemmas.Bool.Decides.{nat_tests}
 use Rattle.std.proofs.lemmas.List.{at_drop_more, at_drop_all}
 use Rattle.wire.specs.declared.records.Statement.{Statement}
+use Rattle.wire.specs.declared.kinds.Kind.TheVariants.{Commit}
 use Rattle.wire.specs.declared.records.Sealed.{Sealed}
 use Rattle.quorum.specs.Sets.{count, Ascends, signed_by}
-use Rattle.group.specs.Group.{stands, grouped, surplus, list_fault, exactly, commits_fault, Stood, Fell, Whole, Groups, Proved, CommitsProve}
+use Rattle.group.specs.Group.{stands, grouped, quorum_held, surplus, list_fault, exactly, commits_fault, Stood, Fell, Whole, Groups, Proved, CommitsProve}
 use Rattle.seal.specs.Records.{none, signer_of}
 use Rattle.quorum.proofs.Counting.{signed_count}
 
@@ -22,8 +23,8 @@ module _ {X : Type 0} (names : X → ℕ) (allows : X → Bool) (n : ℕ) where
   past zero i least h = absurd (omega arith)
   past (suc q) i least h = refl
 
-  pub group_past : (q i least : ℕ) (xs : List X) → 0 < q → length xs ≤ i → grouped names allows n q i least (drop i xs) ≡ Err i
-  group_past q i least xs h e = at_drop_all (grouped names allows n q i least) xs i e ∙ past q i least h
+  pub group_past : (q place least i : ℕ) (xs : List X) → 0 < q → length xs ≤ i → grouped names allows n q place least (drop i xs) ≡ Err place
+  group_past q place least i xs h e = at_drop_all (grouped names allows n q place least) xs i e ∙ past q place least h
 
   next : (q i least : ℕ) (x : X) (xs : List X) → 0 < q → grouped names allows n q i least (x ∷ xs) ≡ cond (stands names allows n least x) (grouped names allows n (q - 1) (i + 1) (names x + 1) xs) (Err i)
   unfolding grouped
@@ -32,12 +33,13 @@ module _ {X : Type 0} (names : X → ℕ) (allows : X → Bool) (n : ℕ) where
       let less : q ≡ suc q - 1 = omega arith in
       ap (λ m. cond (stands names allows n least x) (grouped names allows n m (i + 1) (names x + 1) xs) (Err i)) less
 
-  pub group_at : (q i least : ℕ) (xs : List X) (x : X) (s : ℕ) → 0 < q → i < length xs → x ≡ get_or xs i x → s ≡ names x → grouped names allows n q i least (drop i xs) ≡ cond (leb least s && (ltb s n && allows x)) (grouped names allows n (q - 1) (i + 1) (s + 1) (drop (i + 1) xs)) (Err i)
-  group_at q i least xs x s more h e es =
-      at_drop_more (grouped names allows n q i least) xs i x h
-      ∙ ap (λ y. grouped names allows n q i least (y ∷ drop (i + 1) xs)) (sym e)
-      ∙ next q i least x (drop (i + 1) xs) more
-      ∙ ap (λ t. cond (leb least t && (ltb t n && allows x)) (grouped names allows n (q - 1) (i + 1) (t + 1) (drop (i + 1) xs)) (Err i)) (sym es)
+  pub group_at : (q place least i : ℕ) (xs : List X) (x : X) (s : ℕ) → 0 < q → i < length xs → x ≡ get_or xs i x → s ≡ names x
+      → grouped names allows n q place least (drop i xs) ≡ cond (leb least s && (ltb s n && allows x)) (grouped names allows n (q - 1) (place + 1) (s + 1) (drop (i + 1) xs)) (Err place)
+  group_at q place least i xs x s more h e es =
+      at_drop_more (grouped names allows n q place least) xs i x h
+      ∙ ap (λ y. grouped names allows n q place least (y ∷ drop (i + 1) xs)) (sym e)
+      ∙ next q place least x (drop (i + 1) xs) more
+      ∙ ap (λ t. cond (leb least t && (ltb t n && allows x)) (grouped names allows n (q - 1) (place + 1) (t + 1) (drop (i + 1) xs)) (Err place)) (sym es)
 
 module _ {X : Type 0} (names : X → ℕ) (allows : X → Bool) (n : ℕ) where
   pub stood : (k place least : ℕ) (xs : List X) (p : ℕ) → grouped names allows n k place least xs ≡ Ok p → Stood names allows n k place least xs p
@@ -182,16 +184,24 @@ commits_prove accepts n q number rs e = go (cases_eq (get_or rs 0 none).statemen
     go : ((get_or rs 0 none).statement.epoch ≡ 0) ⊎ ((get_or rs 0 none).statement.epoch ≡ 0 → ⊥) → Proved accepts n q number rs
     go (inl h) =
         let st = (get_or rs 0 none).statement in
-        let rule = exactly accepts 4 st.epoch number st.digest in
+        let rule = exactly accepts Commit st.epoch number st.digest in
         let s : ◌≡◌ {A = Option ℕ} (Some 0) None = sym (cond-true (eqb st.epoch 0) (Some 0) (list_fault signer_of rule n q rs) (eq-eqb st.epoch 0 h)) ∙ e in
         let z : ◌≡◌ {A = ℕ} 0 1 = cc in
         absurd (omega arith)
     go (inr h) =
         let st = (get_or rs 0 none).statement in
-        let rule = exactly accepts 4 st.epoch number st.digest in
+        let rule = exactly accepts Commit st.epoch number st.digest in
         let f : list_fault signer_of rule n q rs ≡ None = sym (cond-false (eqb st.epoch 0) (Some 0) (list_fault signer_of rule n q rs) (ne_eqb st.epoch 0 h)) ∙ e in
         record { epoch = st.epoch; digest = st.digest; begun = omega arith; commits = whole signer_of rule n q rs f }
 
 pub commits_none : (accepts : Statement → ℕ → Bool) (n q number : ℕ) (rs : List Sealed) → length rs ≡ 0 → Some 0 ≡ commits_fault accepts n q number rs
 commits_none accepts n q number [] h = refl
 commits_none accepts n q number (r ∷ rs) h = absurd (omega arith)
+
+-- a list that holds a quorum has so many different signers
+pub held_counted : {X : Type 0} (names : X → ℕ) (n q : ℕ) (xs : List X) → quorum_held names n q xs ≡ true → q ≤ count (signed_by names (take q xs)) n
+held_counted {X} names n q xs h = go (grouped names (λ _. true) n q 0 0 xs) refl h
+  where
+    go : (r : Result ℕ ℕ) → grouped names (λ _. true) n q 0 0 xs ≡ r → is_ok r ≡ true → q ≤ count (signed_by names (take q xs)) n
+    go (Ok p) e _ = counted names (λ _. true) n q 0 xs p e
+    go (Err i) e b = absurd (let z : ◌≡◌ {A = ℕ} 0 1 = cc in omega arith)

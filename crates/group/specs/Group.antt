@@ -5,6 +5,9 @@ use Rattle.wire.specs.declared.records.DigestValue.{DigestValue}
 use Rattle.wire.specs.declared.records.Statement.{Statement}
 use Rattle.wire.specs.declared.records.Sealed.{Sealed}
 use Rattle.quorum.specs.Sets.{count, Ascends, signed_by}
+use Rattle.wire.specs.declared.kinds.Kind.{Kind}
+use Rattle.wire.specs.declared.kinds.Kind.TheVariants.{Commit}
+use Rattle.wire.specs.Kinds.{same_kind}
 use Rattle.wire.specs.Values.{same_digest}
 use Rattle.seal.specs.Records.{none, signer_of}
 
@@ -33,17 +36,17 @@ abbrev pub quorum_held : {X : Type 0} → (X → ℕ) → ℕ → ℕ → List X
 quorum_held names n q xs = is_ok (grouped names (λ _. true) n q 0 0 xs)
 
 -- a genuine statement of which all but the signer is given
-abbrev pub exactly : (Statement → ℕ → Bool) → ℕ → ℕ → ℕ → DigestValue → Sealed → Bool
+abbrev pub exactly : (Statement → ℕ → Bool) → Kind → ℕ → ℕ → DigestValue → Sealed → Bool
 exactly accepts kind epoch number digest r =
     let st = r.statement in
-    (st.kind == kind) && (st.epoch == epoch && (st.number == number && (st.held == 0
+    (same_kind st.kind kind) && (st.epoch == epoch && (st.number == number && (st.held == 0
     && (same_digest st.digest digest && accepts st r.seal))))
 
--- a list that proves a number: q commits (kind 4) of it, of one epoch from 1 up and one digest, which the first sets
+-- a list that proves a number: q commits of it, of one epoch from 1 up and one digest, which the first sets
 abbrev pub commits_fault : (Statement → ℕ → Bool) → ℕ → ℕ → ℕ → List Sealed → Option ℕ
 commits_fault accepts n q number rs =
     let st = (slice_index_or rs 0 none).statement in
-    cond (st.epoch == 0) (Some 0) (list_fault signer_of (exactly accepts 4 st.epoch number st.digest) n q rs)
+    cond (st.epoch == 0) (Some 0) (list_fault signer_of (exactly accepts Commit st.epoch number st.digest) n q rs)
 
 -- what a group that came through shows
 pub record Stood {X : Type 0} (names : X → ℕ) (allows : X → Bool) (n k place least : ℕ) (xs : List X) (next : ℕ) : Type 0 where
@@ -87,7 +90,7 @@ pub record Proved (accepts : Statement → ℕ → Bool) (n q number : ℕ) (rs 
   pub epoch : ℕ
   pub digest : DigestValue
   pub begun : 0 < epoch
-  pub commits : Whole signer_of (exactly accepts 4 epoch number digest) n q rs
+  pub commits : Whole signer_of (exactly accepts Commit epoch number digest) n q rs
 
 abbrev pub CommitsProve : Type 0
 CommitsProve =

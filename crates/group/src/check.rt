@@ -6,8 +6,16 @@ ghost use Rattle.quorum.specs.Sets.{count, signed_by};
 use crate::rules::{AnyMark, Exact, Rule};
 use crate::signed::Signed;
 use seal::checker::SealChecker;
-use wire::kinds::COMMIT;
+use wire::kinds::Kind;
 use wire::records::Sealed;
+
+// The records from a place on; none past the end.
+fn tail<T>(list: &[T], from: usize) -> &[T]
+    ensures { result.now ≡ drop from list.now }
+{
+    let start = from.min(list.len());
+    &list[start..]
+}
 
 // The place after the group of q records that begins at a place, or the place of the first record
 // at fault or missing.
@@ -20,29 +28,19 @@ pub fn group<T: Signed, R: Rule<T>>(
 ) -> Result<usize, usize>
     ensures { result ≡ grouped T.names (R.allows rule.now) n q from 0 (drop from list.now) }
 {
+    let rest = tail(list, from);
     let mut least: u8 = 0;
-    let mut left = q;
-    let mut i = from;
-    while left > 0 {
-        if i >= list.len() {
-            return Err(i);
-        }
-        let x = &list[i];
+    for (i, x) in rest[..q.min(rest.len())].iter().enumerate() {
         let s = x.signer();
-        if s < least {
-            return Err(i);
-        }
-        if s >= n {
-            return Err(i);
-        }
-        if !rule.allowed(x) {
-            return Err(i);
+        if s < least || s >= n || !rule.allowed(x) {
+            return Err(from + i);
         }
         least = s + 1;
-        left -= 1;
-        i += 1;
     }
-    Ok(i)
+    if rest.len() < q {
+        return Err(from + rest.len());
+    }
+    Ok(from + q)
 }
 
 // The index of the first record at fault, missing or surplus in a list that is one group.
@@ -51,12 +49,8 @@ pub fn first_fault<T: Signed, R: Rule<T>>(list: &[T], n: u8, q: usize, rule: &R)
 {
     match group(list, 0, n, q, rule) {
         Err(i) => Some(i),
-        Ok(next) => {
-            if next < list.len() {
-                return Some(next);
-            }
-            None
-        }
+        Ok(next) if next < list.len() => Some(next),
+        Ok(_) => None,
     }
 }
 
@@ -65,10 +59,7 @@ pub fn holds_quorum<T: Signed>(list: &[T], n: u8, q: usize) -> bool
     ensures exact { result ≡ quorum_held T.names n q list.now }
     ensures counted { result ≡ true → q ≤ count (signed_by T.names (take q list.now)) n }
 {
-    match group(list, 0, n, q, &AnyMark) {
-        Ok(_) => true,
-        Err(_) => false,
-    }
+    group(list, 0, n, q, &AnyMark).is_ok()
 }
 
 // The index of the first record at fault, missing or surplus in a list of commits that proves a
@@ -82,16 +73,21 @@ pub fn commits_fault<C: SealChecker>(
 ) -> Option<usize>
     ensures { result ≡ commits_fault (C.accepts checker.now) n q number list.now }
 {
-    if list.len() == 0 {
+    let Some(
+        Sealed {
+            statement: first,
+            ..
+        },
+    ) = list.first()
+    else {
         return Some(0);
-    }
-    let first = list[0].statement;
+    };
     if first.epoch == 0 {
         return Some(0);
     }
     let rule = Exact {
         checker,
-        kind: COMMIT,
+        kind: Kind::Commit,
         epoch: first.epoch,
         number,
         digest: first.digest,

@@ -3,6 +3,7 @@ ghost use Rattle.std.specs.Prelude.{◌≡◌, Bool, true};
 ghost use Rattle.group.specs.Group.{exactly};
 
 use seal::checker::SealChecker;
+use wire::kinds::Kind;
 use wire::records::{DigestValue, Sealed};
 
 pub trait Rule<T> {
@@ -28,7 +29,7 @@ impl<T> Rule<T> for AnyMark {
 #[derive(Drop)]
 pub struct Exact<'a, C: SealChecker> {
     pub checker: &'a C,
-    pub kind: u8,
+    pub kind: Kind,
     pub epoch: u32,
     pub number: u64,
     pub digest: DigestValue,
@@ -40,21 +41,11 @@ impl<'a, C: SealChecker> Rule<Sealed> for Exact<'a, C> {
     // the seal is tried last
     fn allowed(&self, x: &Sealed) -> bool {
         let st = x.statement;
-        if st.kind != self.kind {
-            return false;
-        }
-        if st.epoch != self.epoch {
-            return false;
-        }
-        if st.number != self.number {
-            return false;
-        }
-        if st.held != 0 {
-            return false;
-        }
-        if !st.digest.equals(&self.digest) {
-            return false;
-        }
-        self.checker.genuine(&st, x.seal)
+        st.kind == self.kind
+            && st.epoch == self.epoch
+            && st.number == self.number
+            && st.held == 0
+            && st.digest == self.digest
+            && self.checker.genuine(&st, x.seal)
     }
 }

@@ -3,7 +3,9 @@ use Rattle.std.proofs.Common.{◌≡◌, ℕ, true, eqb, refl, subst}
 use Rattle.std.proofs.lemmas.Bool.{and_parts, and_from, eqb-true, eq-eqb}
 use Rattle.wire.specs.declared.records.DigestValue.{DigestValue}
 use Rattle.wire.specs.declared.records.Statement.{Statement}
+use Rattle.wire.specs.Kinds.{same_kind}
 use Rattle.wire.specs.Values.{same_digest}
+use Rattle.wire.proofs.KindBytes.{same_kind_is, same_kind_self}
 use Rattle.seal.specs.Records.{same_statement, Same}
 
 -- equal digests are one digest
@@ -17,13 +19,13 @@ same_digest_self a = eq-eqb a.word a.word refl
 
 pub same_statement_is : (a b : Statement) → same_statement a b ≡ true → a ≡ b
 same_statement_is a b h =
-    let h1 = and_parts (eqb a.kind b.kind) _ h in
+    let h1 = and_parts (same_kind a.kind b.kind) _ h in
     let h2 = and_parts (eqb a.signer b.signer) _ h1.1 in
     let h3 = and_parts (eqb a.epoch b.epoch) _ h2.1 in
     let h4 = and_parts (eqb a.number b.number) _ h3.1 in
     let h5 = and_parts (eqb a.held b.held) (same_digest a.digest b.digest) h4.1 in
     λ i. record {
-      kind = eqb-true a.kind b.kind h1.0 i;
+      kind = same_kind_is a.kind b.kind h1.0 i;
       signer = eqb-true a.signer b.signer h2.0 i;
       epoch = eqb-true a.epoch b.epoch h3.0 i;
       number = eqb-true a.number b.number h4.0 i;
@@ -36,7 +38,7 @@ eqb_self x = eq-eqb x x refl
 
 pub same_statement_self : (a : Statement) → same_statement a a ≡ true
 same_statement_self a =
-    and_from (eqb a.kind a.kind) _ (eqb_self a.kind)
+    and_from (same_kind a.kind a.kind) _ (same_kind_self a.kind)
     (and_from (eqb a.signer a.signer) _ (eqb_self a.signer)
     (and_from (eqb a.epoch a.epoch) _ (eqb_self a.epoch)
     (and_from (eqb a.number a.number) _ (eqb_self a.number)

@@ -1,27 +1,15 @@
 // The roll: the sealed statements that the host found genuine.
 ghost use Rattle.std.specs.Prelude.{◌≡◌, [], ◌∷◌, ◌++◌, is_ok, if◌then◌else◌, vec_len};
-ghost use Rattle.seal.specs.Records.{same_statement};
 ghost use Rattle.seal.specs.Roll.{listed, matches};
 
 use crate::checker::SealChecker;
 use std::alloc::{AllocError, Global};
 use wire::records::{Sealed, Statement};
 
-fn is_same(a: &Statement, b: &Statement) -> bool
-    ensures { result ≡ same_statement a.now b.now }
-{
-    a.kind == b.kind
-        && a.signer == b.signer
-        && a.epoch == b.epoch
-        && a.number == b.number
-        && a.held == b.held
-        && a.digest.equals(&b.digest)
-}
-
 fn is_entry(entry: &Sealed, st: &Statement, seal: u64) -> bool
     ensures { result ≡ matches entry.now st.now seal }
 {
-    entry.seal == seal && is_same(&entry.statement, st)
+    entry.seal == seal && entry.statement == *st
 }
 
 // Whether one of the entries is that statement under that seal. The only look into a roll.

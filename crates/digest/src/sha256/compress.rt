@@ -23,6 +23,7 @@ fn message_schedule(block: &[u8; 64]) -> [u32; 64]
     ensures { result ≡ schedule 64 block.now }
 {
     let mut w = [0; 64];
+    // by index: a word is made of four that stand before it
     for t in 0..64 {
         w[t] = schedule_word(block, &w, t);
     }
@@ -33,8 +34,8 @@ fn all_rounds(w: &[u32; 64], start: Working) -> Working
     ensures { result ≡ rounds 64 w.now start }
 {
     let mut v = start;
-    for t in 0..64 {
-        v = v.round(K[t], w[t]);
+    for (t, word) in w.iter().enumerate() {
+        v = v.round(K[t], *word);
     }
     v
 }

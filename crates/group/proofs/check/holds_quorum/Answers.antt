@@ -1,10 +1,7 @@
-use Rattle.std.proofs.Common.{true, sym, rules}
-use Rattle.group.proofs.Groups.{counted}
+use Rattle.std.proofs.Common.{is_ok, sym, ap, ◌∙◌}
+use Rattle.group.proofs.Groups.{held_counted}
 use Rattle.group.proofs.check.holds_quorum.Goals as goal
 
-pub returns-in-Ok : goal.returns-in-Ok
-returns-in-Ok g c =
-    record {
-      exact = search rules;
-      counted = λ _. counted g.T.Signed.names (λ _. true) c.args.n c.args.q 0 c.args.list.now _ (sym c.in-Ok.ensures);
-    }
+pub returns-clause-counted : goal.returns-clause-counted
+returns-clause-counted g c =
+    λ h. held_counted g.T.Signed.names c.args.n c.args.q c.args.list.now (sym (c.is_ok.ensures.value ∙ ap is_ok c.group.ensures) ∙ h)
