@@ -15,6 +15,7 @@ use Rattle.protocol.specs.Change.{stable_of, held_of, gave_up, took_turn}
 use Rattle.protocol.specs.Enter.{entered}
 use Rattle.cases.specs.Scene.{app, outbox, short, proposal, answer, start, delivered_to, in_view, changing_3, last_view, by_two, by_three, of_signer, certificate, filled_by, first_place, with_places, with_first, from_16, at_16, place}
 use Rattle.cases.specs.Ordering.{vote, prepared_3}
+use Rattle.wire.specs.declared.kinds.Kind.TheVariants.{New}
 
 -- GIVE UP
 
@@ -62,7 +63,7 @@ enter c new records = entered fives c app outbox new records
 
 -- a new statement for epoch 3, whose primary is controller 3: the base h and a leader set
 abbrev pub new : ℕ → ℕ → Sealed
-new h leaders = said 8 3 3 h 0 leaders
+new h leaders = said New 3 3 h 0 leaders
 
 -- 0, 1 and 3 are to lead from 17 on, by the dossier of 92 records
 abbrev pub left_16 : Core
@@ -120,10 +121,10 @@ pub record Entries : Type 0 where
   -- refused, in the order of the checks: 2, 5, 4, 6, 8, 9, 14, 7
   pub no_room : (entered fives left_16 app short (new 16 11) dossier).result ≡ Err Room
   pub no_new : (enter left_16 (proposal 3 3 16 11) dossier).result ≡ Err Kind
-  pub with_held : (enter left_16 (said 8 3 3 16 1 11) dossier).result ≡ Err Kind
-  pub no_controller : (enter left_16 (said 8 4 3 16 0 11) dossier).result ≡ Err Signer
+  pub with_held : (enter left_16 (said New 3 3 16 1 11) dossier).result ≡ Err Kind
+  pub no_controller : (enter left_16 (said New 4 3 16 0 11) dossier).result ≡ Err Signer
   pub again : (enter began_17 (new 16 11) dossier).result ≡ Err Epoch
-  pub no_primary : (enter left_16 (said 8 2 3 16 0 15) dossier).result ≡ Err Authority
+  pub no_primary : (enter left_16 (said New 2 3 16 0 15) dossier).result ≡ Err Authority
   pub without_signer : (enter left_16 (new 16 7) dossier).result ≡ Err Authority
   pub names_four : (enter left_16 (new 16 27) dossier).result ≡ Err Authority
   pub false_seal : (enter left_16 (forged (new 16 11)) dossier).result ≡ Err Seal

@@ -15,6 +15,7 @@ use Rattle.protocol.specs.Call.{Step, unsealed}
 use Rattle.protocol.specs.Offer.{offered, prepare_of}
 use Rattle.protocol.specs.Vote.{voted, commit_of}
 use Rattle.cases.specs.Scene.{sum_of, app, plus, itself, outbox, short, ask, asks, batch, proposal, commit, answer, start, delivered_to, in_view, changing_3, ballot, by_one, by_two, by_three, certificate, filled_by, first_place, with_first, with_row, at_16, near_limit, place}
+use Rattle.wire.specs.declared.kinds.Kind.TheVariants.{Proposal, Prepare, Checkpoint}
 
 -- OFFER
 
@@ -53,7 +54,7 @@ pub record Offers : Type 0 where
   -- refused, in the order of the checks: 2, 5, 4, 6, 7, 10, 8, 12, 9, 13
   pub no_room : (offered fives sum_of start app short (proposal 0 1 1 19) batch).result ≡ Err Room
   pub no_proposal : (offer start (prepare 0 1 1 19) batch).result ≡ Err Kind
-  pub with_held : (offer start (said 2 0 1 1 1 19) batch).result ≡ Err Kind
+  pub with_held : (offer start (said Proposal 0 1 1 1 19) batch).result ≡ Err Kind
   pub no_controller : (offer start (proposal 4 1 1 19) batch).result ≡ Err Signer
   pub other_epoch : (offer start (proposal 0 2 1 19) batch).result ≡ Err Epoch
   pub changing : (offer (in_view changing_3 start) (proposal 0 3 1 19) batch).result ≡ Err Epoch
@@ -129,7 +130,7 @@ pub record VotesOfEpoch : Type 0 where
   -- refused, in the order of the checks: 2, 5, 4, 6, 7, 11, 10, 9
   pub no_room : (voted plus itself fives filled_1 app short (prepare 0 1 1 19)).result ≡ Err Room
   pub no_vote : (vote filled_1 (proposal 0 1 1 19)).result ≡ Err Kind
-  pub with_held : (vote filled_1 (said 3 0 1 1 1 19)).result ≡ Err Kind
+  pub with_held : (vote filled_1 (said Prepare 0 1 1 1 19)).result ≡ Err Kind
   pub no_controller : (vote filled_1 (prepare 4 1 1 19)).result ≡ Err Signer
   pub other_epoch : (vote filled_1 (prepare 0 2 1 19)).result ≡ Err Epoch
   pub no_place : (vote filled_1 (prepare 0 1 33 19)).result ≡ Err Number
@@ -166,4 +167,4 @@ pub record VotesForCheckpoints : Type 0 where
   -- refused: no multiple of 16; a second one, also with another mark; an epoch, which a checkpoint does not use
   pub no_multiple : (vote start (checkpoint 0 8 9)).result ≡ Err Number
   pub again : (vote three_marks (checkpoint 1 16 9)).result ≡ Err Standing
-  pub with_epoch : (vote start (said 5 0 1 16 0 9)).result ≡ Err Kind
+  pub with_epoch : (vote start (said Checkpoint 0 1 16 0 9)).result ≡ Err Kind

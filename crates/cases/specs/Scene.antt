@@ -26,6 +26,7 @@ use Rattle.protocol.specs.declared.records.View.{View}
 use Rattle.protocol.specs.declared.records.Answer.{Answer}
 use Rattle.protocol.specs.declared.refusal.Refusal.{Refusal}
 use Rattle.protocol.specs.State.{new_core, with_table}
+use Rattle.wire.specs.declared.kinds.Kind.TheVariants.{Proposal, Commit}
 
 -- WHO AND WITH WHAT
 
@@ -71,10 +72,10 @@ asks (suc k) timestamp = ask timestamp 10 ∷ asks k (timestamp + 4)
 
 -- proposals and commits, by controller i
 abbrev pub proposal : ℕ → ℕ → ℕ → ℕ → Sealed
-proposal i epoch s d = said 2 i epoch s 0 d
+proposal i epoch s d = said Proposal i epoch s 0 d
 
 abbrev pub commit : ℕ → ℕ → ℕ → ℕ → Sealed
-commit i epoch s d = said 4 i epoch s 0 d
+commit i epoch s d = said Commit i epoch s 0 d
 
 -- what an accepted call answers
 abbrev pub answer : ℕ → ℕ → ℕ → ℕ → ℕ → ℕ → Result Answer Refusal

@@ -23,6 +23,8 @@ use Rattle.protocol.specs.Change.{last_epoch, undelivered, after_last, turned, t
 use Rattle.controller.specs.Sound.{Sound}
 use Rattle.controller.specs.Agree.{turn_core}
 use Rattle.controller.proofs.Kept.{few_empty, entered_none, few_entered, Tame, tame_with}
+use Rattle.wire.specs.declared.kinds.Kind.TheVariants.{Proposal}
+use Rattle.wire.specs.Kinds.{same_kind}
 
 pub passes : (b : Bool) (r : Refusal) (o : Option Refusal) → None ≡ cond b (Some r) o → (b ≡ false) × (None ≡ o)
 passes false r o e = (refl, e)
@@ -70,7 +72,7 @@ offer_may accepts value c outbox p rs e =
     let st = p.statement in
     let all = both_pass _ (at_request (first_bad accepts value c st.number rs 0 rs)) e in
     let a = passes (cramped outbox) Room _ all.0 in
-    let b = passes (not (eqb st.kind 2) || not (eqb st.held 0)) Kind _ a.1 in
+    let b = passes (not (same_kind st.kind Proposal) || not (eqb st.held 0)) Kind _ a.1 in
     let d = passes (leb (size c) st.signer) Signer _ b.1 in
     let f = passes (c.view.changing || not (eqb st.epoch c.view.epoch)) Epoch _ d.1 in
     let h = passes (not_offered c st.number) Number _ f.1 in

@@ -19,6 +19,7 @@ use Rattle.controller.proofs.Passes.{passes, roomy}
 use Rattle.protocol.specs.Change.{last_epoch, stable_of, held_for, helds_from, prepares_for, prepares_from, evidence, give_up_refusal, give_up_effect}
 use Rattle.controller.specs.Agree.{Agrees, written_at, spoken, told, give_up_core}
 use Rattle.controller.proofs.Posts.{written_one, written_push, written_more}
+use Rattle.wire.specs.declared.kinds.Kind.TheVariants.{Prepare, Checkpoint}
 
 pub length-helds : (signer target s : ℕ) (ps : List Place) → length (helds_from signer target s ps) ≡ length ps
 length-helds signer target s [] = refl
@@ -80,10 +81,10 @@ certificate_more s ps i at n k box box' box'' lt room hn is hk next =
     )
 
 pub certificate_votes : (number : ℕ) (o : Option Certificate) (k : Certificate) (slice : List Vote) → o ≡ Some k → held_votes o ≤ 11 → slice ≡ votes_of k.prepares
-    → (length slice ≡ length (prepares_for number o)) × (length slice ≤ 11) × (map (spoken 3 k.epoch number) slice ≡ prepares_for number o)
+    → (length slice ≡ length (prepares_for number o)) × (length slice ≤ 11) × (map (spoken Prepare k.epoch number) slice ≡ prepares_for number o)
 certificate_votes number o k slice is few same =
-    let all : map (spoken 3 k.epoch number) slice ≡ prepares_for number o = ap (map (spoken 3 k.epoch number)) same ∙ sym (ap (prepares_for number) is) in (
-      sym (length-map slice (spoken 3 k.epoch number)) ∙ ap length all,
+    let all : map (spoken Prepare k.epoch number) slice ≡ prepares_for number o = ap (map (spoken Prepare k.epoch number)) same ∙ sym (ap (prepares_for number) is) in (
+      sym (length-map slice (spoken Prepare k.epoch number)) ∙ ap length all,
       omega (arith, ap length same, length-take (min k.prepares.count 16) k.prepares.list, ap held_votes is),
       all,
     )
@@ -100,14 +101,14 @@ tell_made c target signer box box' x room hx hs is =
     ∙ written_more 0 (first ∷ []) (helds (own c)) box (omega arith)))
 
 pub show_made : (t : Table) (slice : List Vote) (k : ℕ) (box box' box'' : List Sealed) → slice ≡ votes_of t.proof → 33 + length slice ≤ length box
-    → box' ≡ written_at 33 (map (spoken 5 0 t.stable) slice) box → k ≡ length (prepares_from (t.stable + 1) t.places)
+    → box' ≡ written_at 33 (map (spoken Checkpoint 0 t.stable) slice) box → k ≡ length (prepares_from (t.stable + 1) t.places)
     → box'' ≡ written_at (33 + length slice) (prepares_from (t.stable + 1) t.places) box'
     → (length slice + k ≡ length (evidence t)) × (box'' ≡ written_at 33 (evidence t) box)
 show_made t slice k box box' box'' same room is hk next =
-    let xs = map (spoken 5 0 t.stable) slice in
+    let xs = map (spoken Checkpoint 0 t.stable) slice in
     let ys = prepares_from (t.stable + 1) t.places in
-    let long : length slice ≡ length xs = sym (length-map slice (spoken 5 0 t.stable)) in
-    let all : xs ++ ys ≡ evidence t = ap (λ l. map (spoken 5 0 t.stable) l ++ ys) same in (
+    let long : length slice ≡ length xs = sym (length-map slice (spoken Checkpoint 0 t.stable)) in
+    let all : xs ++ ys ≡ evidence t = ap (λ l. map (spoken Checkpoint 0 t.stable) l ++ ys) same in (
       omega (arith, ap length all, length-append xs ys, long),
       next ∙ ((λ i. written_at (33 + long i) ys (is i)) ∙ (written_more 33 xs ys box (omega (arith, long)) ∙ ap (λ l. written_at 33 l box) all)),
     )

@@ -26,13 +26,15 @@ use Rattle.controller.specs.Agree.{said, written_at, Voted, Reached, issued_only
 use Rattle.controller.proofs.Kept.{Tame, tame_with, few_drop, few_append}
 use Rattle.controller.proofs.Passes.{passes, roomy, tame}
 use Rattle.controller.proofs.Posts.{written_one}
+use Rattle.wire.specs.declared.kinds.Kind.TheVariants.{Prepare, Commit, Checkpoint}
+use Rattle.wire.specs.Kinds.{same_kind}
 
 -- the q-th prepare
 pub prepared_voted : (c : Core) (v : Sealed) (box : List Sealed) (t₁ t₂ : Table) (b : Ballot) (x : Sealed) (p : Progress) → 0 < length box
     → b ≡ ballot_of v → t₁ ≡ prepare_at c.table v.statement.number v.statement.signer b
     → true ≡ just_backed (size c) (enough c) v.statement.digest (place_at t₁ v.statement.number).prepares
     → t₂ ≡ certify_at t₁ v.statement.number c.view.epoch v.statement.digest
-    → x ≡ unsealed (said 4 (own c) c.view.epoch v.statement.number v.statement.digest)
+    → x ≡ unsealed (said Commit (own c) c.view.epoch v.statement.number v.statement.digest)
     → p ≡ record { issued = 1; batches = 0; applied = 0; passed = 0 }
     → Voted c box (prepare_table c v) (prepare_issued c v) (record { house = c.house; view = c.view; table = t₂; delivered = c.delivered; windows = c.windows }) (set box 0 x) p
 prepared_voted c v box t₁ t₂ b x p room hb h₁ full h₂ hx hp =
@@ -57,7 +59,7 @@ few_one false st = omega arith
 pub vote_few : (c : Core) (v : Sealed) → length (vote_issued c v) ≤ 1
 vote_few c v =
     let st = v.statement in
-    cond_both (eqb st.kind 3) (prepare_issued c v) [] (λ l. length l ≤ 1) (λ _. few_one (now_prepared c v) (commit_of (own c) c.view.epoch st.number st.digest)) (λ _. omega arith)
+    cond_both (same_kind st.kind Prepare) (prepare_issued c v) [] (λ l. length l ≤ 1) (λ _. few_one (now_prepared c v) (commit_of (own c) c.view.epoch st.number st.digest)) (λ _. omega arith)
 
 -- TAME
 
@@ -128,21 +130,21 @@ module _ (accepts : Statement → ℕ → Bool) (c : Core) (outbox : List Sealed
         (omega (arith, backed_long (size c) (enough c) st.digest row full, quorum_low (size c) c.house.few)))
         (λ _. t₁)
 
-    low_number : eqb v.statement.kind 3 ≡ false → eqb v.statement.kind 4 ≡ false → v.statement.number ≤ 1000000000000
+    low_number : same_kind v.statement.kind Prepare ≡ false → same_kind v.statement.kind Commit ≡ false → v.statement.number ≤ 1000000000000
     low_number n₃ n₄ =
         let st = v.statement in
-        let kinds = or_parts (not (of_epoch st.kind || eqb st.kind 5)) _ vote_kind in
-        let five = last_kind (eqb st.kind 3) (eqb st.kind 4) (eqb st.kind 5) (unnot (of_epoch st.kind || eqb st.kind 5) kinds.0) n₃ n₄ in
+        let kinds = or_parts (not (of_epoch st.kind || same_kind st.kind Checkpoint)) _ vote_kind in
+        let five = last_kind (same_kind st.kind Prepare) (same_kind st.kind Commit) (same_kind st.kind Checkpoint) (unnot (of_epoch st.kind || same_kind st.kind Checkpoint) kinds.0) n₃ n₄ in
         let number = or_parts (not (in_window c.table st.number)) _ vote_number in
-        let limits = right_false (eqb st.kind 5) (ltb limit st.number || not (eqb (st.number % 16) 0)) five number.1 in
+        let limits = right_false (same_kind st.kind Checkpoint) (ltb limit st.number || not (eqb (st.number % 16) 0)) five number.1 in
         ltb-false limit st.number (or_parts (ltb limit st.number) _ limits).0
 
     pub vote_tame : Tame (vote_table c v)
     vote_tame =
         let st = v.statement in
-        cond_both (eqb st.kind 3) (prepare_table c v) (cond (eqb st.kind 4) (commit_table c v) (checkpoint_table c v)) Tame
+        cond_both (same_kind st.kind Prepare) (prepare_table c v) (cond (same_kind st.kind Commit) (commit_table c v) (checkpoint_table c v)) Tame
         (λ _. tame_prepare)
-        (λ n₃. cond_both (eqb st.kind 4) (commit_table c v) (checkpoint_table c v) Tame
+        (λ n₃. cond_both (same_kind st.kind Commit) (commit_table c v) (checkpoint_table c v) Tame
         (λ _. tame_with c.table st.number (committed st.signer (ballot_of v) (place_at c.table st.number)) (tame c h) (h.3 (st.number - c.table.stable - 1)))
         (λ n₄. tame_checkpoint (low_number n₃ n₄)))
 

@@ -18,6 +18,7 @@ use Rattle.protocol.specs.Change.{turned, given_up, stable_of, helds_from}
 use Rattle.protocol.specs.Delivery.{Flow, checkpoint_of}
 use Rattle.protocol.specs.Call.{Step, unsealed}
 use Rattle.protocol.specs.Enter.{base_proof, choices, entered_view, prepares_chosen}
+use Rattle.wire.specs.declared.kinds.Kind.{Kind}
 
 -- a call's result, and what core, application and outbox are at its end, are those of a step
 pub record Agrees {X : Type 0} (s : Step X) (r : Result Answer Refusal) (c : Core) (a : X) (o : List Sealed) : Type 0 where
@@ -34,7 +35,7 @@ abbrev pub offer_core : Core → Sealed → List Request → Core
 offer_core c p rs = with_table c (fill_at c.table p.statement.number p.statement.digest (Some (stored rs)))
 
 -- a statement that holds no epoch
-abbrev pub said : ℕ → ℕ → ℕ → ℕ → DigestValue → Statement
+abbrev pub said : Kind → ℕ → ℕ → ℕ → DigestValue → Statement
 said kind signer epoch number digest = record { kind = kind; signer = signer; epoch = epoch; number = number; held = 0; digest = digest }
 
 -- sent from a place of the outbox on; its other places stay
@@ -107,7 +108,7 @@ pub record Voted (c : Core) (box : List Sealed) (t : Table) (issued : List State
   pub progress : p ≡ issued_only issued
 
 -- a vote as a statement of a kind, an epoch and a number
-abbrev pub spoken : ℕ → ℕ → ℕ → Vote → Sealed
+abbrev pub spoken : Kind → ℕ → ℕ → Vote → Sealed
 spoken kind epoch number v = record { statement = said kind v.signer epoch number v.digest; seal = v.seal }
 
 -- what giving up makes of a core, and what it issues

@@ -10,7 +10,7 @@ use crate::progress::Progress;
 use application::interface::Application;
 use protocol::records::{Answer, Core};
 use window::delivery::deliver;
-use wire::kinds::CHECKPOINT;
+use wire::kinds::Kind;
 use wire::records::{Batch, DigestValue, Request, Sealed};
 
 // The batch that can be delivered next.
@@ -44,11 +44,11 @@ fn checkpoint(core: &Core, mark: u64, at: usize, outbox: &mut [Sealed]) -> usize
         return 0;
     }
     outbox[at] = said(
-        CHECKPOINT,
+        Kind::Checkpoint,
         core.house.own(),
         0,
         core.delivered,
-        DigestValue::from_number(mark),
+        DigestValue::from(mark),
     );
     1
 }

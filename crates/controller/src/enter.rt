@@ -10,7 +10,7 @@ use crate::post::said;
 use dossier::parts::Opened;
 use protocol::records::{Core, View};
 use table::records::{Vote, Votes};
-use wire::kinds::PREPARE;
+use wire::kinds::Kind;
 use wire::records::{DigestValue, Sealed};
 
 fn push(votes: &mut Votes, checkpoint: &Sealed)
@@ -72,7 +72,7 @@ fn issue_one(
 {
     match chosen {
         Some(d) => {
-            outbox[at] = said(PREPARE, signer, epoch, number, d);
+            outbox[at] = said(Kind::Prepare, signer, epoch, number, d);
             1
         }
         None => 0,

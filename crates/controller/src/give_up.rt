@@ -8,7 +8,7 @@ ghost use Rattle.controller.specs.Agree.{written_at, spoken, told, give_up_core}
 use crate::post::said;
 use protocol::records::Core;
 use table::records::{Certificate, Place, Vote};
-use wire::kinds::{CHECKPOINT, HELD, PREPARE, STABLE};
+use wire::kinds::Kind;
 use wire::records::{DigestValue, Sealed, Statement};
 
 // What is held of a number.
@@ -17,11 +17,11 @@ fn held(signer: u8, target: u32, number: u64, certificate: &Option<Certificate>)
 {
     let (epoch, digest) = match *certificate {
         Some(k) => (k.epoch, k.digest),
-        None => (0, DigestValue::from_number(0)),
+        None => (0, DigestValue::from(0)),
     };
     Sealed {
         statement: Statement {
-            kind: HELD,
+            kind: Kind::Held,
             signer,
             epoch: target,
             number,
@@ -51,7 +51,7 @@ fn write_helds(
 }
 
 // A vote as the statement that it was.
-fn spoken(kind: u8, epoch: u32, number: u64, vote: &Vote) -> Sealed
+fn spoken(kind: Kind, epoch: u32, number: u64, vote: &Vote) -> Sealed
     ensures { result ≡ spoken kind epoch number vote.now }
 {
     Sealed {
@@ -67,7 +67,7 @@ fn spoken(kind: u8, epoch: u32, number: u64, vote: &Vote) -> Sealed
     }
 }
 
-fn write_votes(kind: u8, epoch: u32, number: u64, votes: &[Vote], at: usize, outbox: &mut [Sealed])
+fn write_votes(kind: Kind, epoch: u32, number: u64, votes: &[Vote], at: usize, outbox: &mut [Sealed])
     requires { at + length votes.now ≤ length outbox.old }
     ensures { outbox.new ≡ written_at at (map (spoken kind epoch number) votes.now) outbox.old }
 {
@@ -92,7 +92,7 @@ fn write_certificate(
     match *certificate {
         Some(k) => {
             let votes = k.prepares.as_slice();
-            write_votes(PREPARE, k.epoch, number, votes, at, outbox);
+            write_votes(Kind::Prepare, k.epoch, number, votes, at, outbox);
             votes.len()
         }
         None => 0,
@@ -128,11 +128,11 @@ fn tell(core: &Core, target: u32, outbox: &mut [Sealed])
 {
     let base = core.table.stable;
     outbox[0] = said(
-        STABLE,
+        Kind::Stable,
         core.house.own(),
         target,
         base,
-        DigestValue::from_number(0),
+        DigestValue::from(0),
     );
     write_helds(
         &core.table.places,
@@ -155,7 +155,7 @@ fn show(core: &Core, outbox: &mut [Sealed]) -> usize
     let base = core.table.stable;
     let proof = core.table.proof.as_slice();
     let checkpoints = proof.len();
-    write_votes(CHECKPOINT, 0, base, proof, 33, outbox);
+    write_votes(Kind::Checkpoint, 0, base, proof, 33, outbox);
     let prepares = write_certificates(&core.table.places, base, 33 + checkpoints, outbox);
     checkpoints + prepares
 }

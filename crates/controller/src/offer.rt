@@ -7,7 +7,7 @@ ghost use Rattle.controller.specs.Agree.{offer_core};
 
 use crate::post::said;
 use protocol::records::Core;
-use wire::kinds::PREPARE;
+use wire::kinds::Kind;
 use wire::records::{Batch, Request, Sealed};
 
 pub(crate) fn accept_offer(
@@ -27,7 +27,7 @@ pub(crate) fn accept_offer(
         Err(_) => {}
     }
     outbox[0] = said(
-        PREPARE,
+        Kind::Prepare,
         core.house.own(),
         core.view.epoch,
         st.number,

@@ -6,7 +6,7 @@ ghost use Rattle.controller.specs.Agree.{said};
 use wire::records::{DigestValue, Sealed, Statement};
 
 // A statement that holds no epoch; the host seals it.
-pub(crate) fn said(kind: u8, signer: u8, epoch: u32, number: u64, digest: DigestValue) -> Sealed
+pub(crate) fn said(kind: Kind, signer: u8, epoch: u32, number: u64, digest: DigestValue) -> Sealed
     ensures { result ≡ unsealed (said kind signer epoch number digest) }
 {
     Sealed {

@@ -10,7 +10,7 @@ use crate::post::said;
 use crate::progress::Progress;
 use protocol::records::Core;
 use table::records::Ballot;
-use wire::kinds::{COMMIT, PREPARE};
+use wire::kinds::Kind;
 use wire::records::{DigestValue, Sealed};
 
 fn ballot_of(vote: &Sealed) -> Ballot
@@ -48,7 +48,7 @@ fn accept_prepare(core: &mut Core, vote: &Sealed, outbox: &mut [Sealed]) -> Prog
     }
     core.table.certify(st.number, core.view.epoch, st.digest);
     outbox[0] = said(
-        COMMIT,
+        Kind::Commit,
         core.house.own(),
         core.view.epoch,
         st.number,
@@ -75,10 +75,10 @@ pub(crate) fn accept_vote(core: &mut Core, vote: &Sealed, outbox: &mut [Sealed])
     ensures { Voted core.old outbox.old (vote_table core.old vote.now) (vote_issued core.old vote.now) core.new outbox.new result }
 {
     let st = vote.statement;
-    if st.kind == PREPARE {
+    if st.kind == Kind::Prepare {
         return accept_prepare(core, vote, outbox);
     }
-    if st.kind == COMMIT {
+    if st.kind == Kind::Commit {
         core.table.commit(st.number, st.signer, ballot_of(vote));
         return Progress::none();
     }

@@ -21,6 +21,10 @@ use Rattle.dossier.specs.declared.tally.Found.{Found}
 use Rattle.dossier.specs.declared.tally.Span.{Span}
 use Rattle.dossier.specs.Walk.{onward, or_fault, no_claim, blank, asked, last_asked, tallied, held_fits, held_one, helds_from, helds, found, numbers}
 use Rattle.dossier.proofs.Passage.{never, through, ok_is, went}
+use Rattle.wire.specs.declared.kinds.Kind.TheVariants.{Prepare, Held}
+use Rattle.wire.specs.Kinds.{same_kind}
+use Rattle.wire.proofs.KindBytes.{same_kind_is}
+use Rattle.wire.specs.declared.kinds.Kind.{Kind}
 
 -- a held epoch and digest that a tally has taken in: no higher than its highest and, at that and without a clash, of its digest
 abbrev pub Agrees : ℕ → DigestValue → Tally → Type 0
@@ -81,16 +85,16 @@ abbrev pub settled : Claim → Tally
 settled c = record { epoch = c.epoch; digest = c.digest; clash = false }
 
 -- a record that is exactly what was asked for, and that the checker accepts
-pub exact_is : (accepts : Statement → ℕ → Bool) (kind e s : ℕ) (d : DigestValue) (r : Sealed) → exactly accepts kind e s d r ≡ true
+pub exact_is : (accepts : Statement → ℕ → Bool) (kind : Kind) (e s : ℕ) (d : DigestValue) (r : Sealed) → exactly accepts kind e s d r ≡ true
     → (r.statement ≡ record { kind = kind; signer = r.statement.signer; epoch = e; number = s; held = 0; digest = d }) × (accepts r.statement r.seal ≡ true)
 exact_is accepts kind e s d r h =
     let st = r.statement in
-    let h₀ = and_parts (eqb st.kind kind) _ h in
+    let h₀ = and_parts (same_kind st.kind kind) _ h in
     let h₁ = and_parts (eqb st.epoch e) _ h₀.1 in
     let h₂ = and_parts (eqb st.number s) _ h₁.1 in
     let h₃ = and_parts (eqb st.held 0) _ h₂.1 in
     let h₄ = and_parts (same_digest st.digest d) _ h₃.1 in
-    ((λ i. record { kind = eqb-true _ _ h₀.0 i; signer = st.signer; epoch = eqb-true _ _ h₁.0 i; number = eqb-true _ _ h₂.0 i; held = eqb-true _ _ h₃.0 i; digest = same_digest_is _ _ h₄.0 i }), h₄.1)
+    ((λ i. record { kind = same_kind_is st.kind kind h₀.0 i; signer = st.signer; epoch = eqb-true _ _ h₁.0 i; number = eqb-true _ _ h₂.0 i; held = eqb-true _ _ h₃.0 i; digest = same_digest_is _ _ h₄.0 i }), h₄.1)
 
 module _ (accepts : Statement → ℕ → Bool) (terms : Terms) (rs : List Sealed) where
   -- the checker accepts the records from a place up to another
@@ -151,7 +155,7 @@ module _ (accepts : Statement → ℕ → Bool) (terms : Terms) (rs : List Seale
 
   pub held_below : (s signer : ℕ) (st : Statement) → held_fits terms.epoch s signer st ≡ true → st.held < terms.epoch
   held_below s signer st h =
-      let h₀ = and_parts (eqb st.kind 7) _ h in
+      let h₀ = and_parts (same_kind st.kind Held) _ h in
       let h₁ = and_parts (eqb st.signer signer) _ h₀.1 in
       let h₂ = and_parts (eqb st.epoch terms.epoch) _ h₁.1 in
       let h₃ = and_parts (eqb st.number s) _ h₂.1 in
@@ -249,7 +253,7 @@ module _ (accepts : Statement → ℕ → Bool) (terms : Terms) (rs : List Seale
     pub each : AllByRecursion (Answered s (settled c)) ts
     pub empty : c.epoch ≡ 0 → c.digest ≡ value_of 0
     pub below : 1 ≤ terms.epoch → c.epoch < terms.epoch
-    pub backed : 1 ≤ c.epoch → (p : ℕ) × (p' : ℕ) × Stood signer_of (exactly accepts 3 c.epoch s c.digest) terms.n terms.q p 0 (drop p rs) p'
+    pub backed : 1 ≤ c.epoch → (p : ℕ) × (p' : ℕ) × Stood signer_of (exactly accepts Prepare c.epoch s c.digest) terms.n terms.q p 0 (drop p rs) p'
 
   record Shown (ts : List Sealed) (s place : ℕ) (f : Found) : Type 0 where
     covered : Covered place f.next
@@ -263,7 +267,7 @@ module _ (accepts : Statement → ℕ → Bool) (terms : Terms) (rs : List Seale
     where
       go : (g : Helds) → Answers s place ts blank g → g.tally.clash ≡ false
           → ((eqb g.tally.epoch 0 ≡ true) × (◌≡◌ {A = Result Found ℕ} (Ok (record { claim = record { epoch = g.tally.epoch; digest = g.tally.digest }; next = g.next })) (Ok f)))
-          ⊎ ((eqb g.tally.epoch 0 ≡ false) × (onward (grouped signer_of (exactly accepts 3 g.tally.epoch s g.tally.digest) terms.n terms.q g.next 0 (drop g.next rs)) (λ p. Ok (record { claim = record { epoch = g.tally.epoch; digest = g.tally.digest }; next = p })) ≡ Ok f))
+          ⊎ ((eqb g.tally.epoch 0 ≡ false) × (onward (grouped signer_of (exactly accepts Prepare g.tally.epoch s g.tally.digest) terms.n terms.q g.next 0 (drop g.next rs)) (λ p. Ok (record { claim = record { epoch = g.tally.epoch; digest = g.tally.digest }; next = p })) ≡ Ok f))
           → Shown ts s place f
       go g w calm-is (inl h) =
           subst (Shown ts s place) (ok_is _ f h.1) (record {
@@ -272,9 +276,9 @@ module _ (accepts : Statement → ℕ → Bool) (terms : Terms) (rs : List Seale
           })
       go g w calm-is (inr h) =
           let b = through _ _ f h.1 in
-          let st = stood signer_of (exactly accepts 3 g.tally.epoch s g.tally.digest) terms.n terms.q g.next 0 (drop g.next rs) b.value b.first in
+          let st = stood signer_of (exactly accepts Prepare g.tally.epoch s g.tally.digest) terms.n terms.q g.next 0 (drop g.next rs) b.value b.first in
           subst (Shown ts s place) (ok_is _ f b.second) (record {
-            covered = covers place g.next b.value w.covered (group_covers (exactly accepts 3 g.tally.epoch s g.tally.digest) terms.q g.next b.value (λ r k. (exact_is accepts 3 _ s _ r k).1) st);
+            covered = covers place g.next b.value w.covered (group_covers (exactly accepts Prepare g.tally.epoch s g.tally.digest) terms.q g.next b.value (λ r k. (exact_is accepts Prepare _ s _ r k).1) st);
             claimed = record { each = subst (λ z. AllByRecursion (Answered s z) ts) (λ i. record { epoch = g.tally.epoch; digest = g.tally.digest; clash = calm-is i }) w.each; empty = w.empty (λ _. refl); below = λ k. w.below (omega arith); backed = λ k. (g.next, b.value, st) };
           })
 

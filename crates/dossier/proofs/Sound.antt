@@ -22,25 +22,29 @@ use Rattle.dossier.specs.Laws.{prepare_by, checkpoint_by, stable_by, held_by, hi
 use Rattle.dossier.proofs.Passage.{ok_is, went, Parts, parts}
 use Rattle.dossier.proofs.Shown.{some_is, nothing, exact_is, held_below, Covered, covers, group_covers, Answered, settled, Claimed, Row, Counted, counted, row_at}
 use Rattle.dossier.proofs.Within.{walked_within}
+use Rattle.wire.specs.declared.kinds.Kind.TheVariants.{Prepare, Checkpoint, Stable, Held}
+use Rattle.wire.specs.Kinds.{same_kind}
+use Rattle.wire.proofs.KindBytes.{same_kind_is}
+use Rattle.wire.specs.declared.kinds.Kind.{Kind}
 
 stable_is : (accepts : Statement → ℕ → Bool) (terms : Terms) (r : Sealed) → stable_fits accepts terms r ≡ true → (r.statement ≡ stable_by (signer_of r) terms.epoch r.statement.number) × (accepts r.statement r.seal ≡ true)
 stable_is accepts terms r h =
     let st = r.statement in
-    let h₀ = and_parts (eqb st.kind 6) _ h in
+    let h₀ = and_parts (same_kind st.kind Stable) _ h in
     let h₁ = and_parts (eqb st.epoch terms.epoch) _ h₀.1 in
     let h₂ = and_parts (eqb (st.number % 16) 0) _ h₁.1 in
     let h₃ = and_parts (leb st.number 1000000000000) _ h₂.1 in
     let h₄ = and_parts (eqb st.held 0) _ h₃.1 in
     let h₅ = and_parts (same_digest st.digest (value_of 0)) _ h₄.1 in
-    ((λ i. record { kind = eqb-true _ _ h₀.0 i; signer = st.signer; epoch = eqb-true _ _ h₁.0 i; number = st.number; held = eqb-true _ _ h₄.0 i; digest = same_digest_is _ _ h₅.0 i }), h₅.1)
+    ((λ i. record { kind = same_kind_is st.kind Stable h₀.0 i; signer = st.signer; epoch = eqb-true _ _ h₁.0 i; number = st.number; held = eqb-true _ _ h₄.0 i; digest = same_digest_is _ _ h₅.0 i }), h₅.1)
 
 held_is : (epoch s signer : ℕ) (st : Statement) → held_fits epoch s signer st ≡ true → st ≡ held_by signer epoch s st.held st.digest
 held_is epoch s signer st h =
-    let h₀ = and_parts (eqb st.kind 7) _ h in
+    let h₀ = and_parts (same_kind st.kind Held) _ h in
     let h₁ = and_parts (eqb st.signer signer) _ h₀.1 in
     let h₂ = and_parts (eqb st.epoch epoch) _ h₁.1 in
     let h₃ = and_parts (eqb st.number s) _ h₂.1 in
-    λ i. record { kind = eqb-true _ _ h₀.0 i; signer = eqb-true _ _ h₁.0 i; epoch = eqb-true _ _ h₂.0 i; number = eqb-true _ _ h₃.0 i; held = st.held; digest = st.digest }
+    λ i. record { kind = same_kind_is st.kind Held h₀.0 i; signer = eqb-true _ _ h₁.0 i; epoch = eqb-true _ _ h₂.0 i; number = eqb-true _ _ h₃.0 i; held = st.held; digest = st.digest }
 
 -- the base is a multiple of 16
 larger_aligned : (b : ℕ) (ts : List Sealed) → b % 16 ≡ 0 → AllByRecursion (λ t. t.statement.number % 16 ≡ 0) ts → fold larger b ts % 16 ≡ 0
@@ -54,31 +58,31 @@ larger_aligned b (t ∷ ts) h a = larger_aligned (larger b t) ts (higher (cases_
 stable_aligned : (accepts : Statement → ℕ → Bool) (terms : Terms) (r : Sealed) → stable_fits accepts terms r ≡ true → r.statement.number % 16 ≡ 0
 stable_aligned accepts terms r h =
     let st = r.statement in
-    let h₀ = and_parts (eqb st.kind 6) _ h in
+    let h₀ = and_parts (same_kind st.kind Stable) _ h in
     let h₁ = and_parts (eqb st.epoch terms.epoch) _ h₀.1 in
     eqb-true _ _ (and_parts (eqb (st.number % 16) 0) _ h₁.1).0
 
 module _ (accepts : Statement → ℕ → Bool) (terms : Terms) (rs : List Sealed) where
   -- the checkpoints of an accepted dossier
-  marks_stood : (o : Opened) (w : Parts accepts terms rs o) → 0 < o.base → grouped signer_of (exactly accepts 5 0 o.base o.mark) terms.n terms.q terms.q 0 (drop terms.q rs) ≡ Ok w.start
+  marks_stood : (o : Opened) (w : Parts accepts terms rs o) → 0 < o.base → grouped signer_of (exactly accepts Checkpoint 0 o.base o.mark) terms.n terms.q terms.q 0 (drop terms.q rs) ≡ Ok w.start
   marks_stood o w h = go (went (eqb o.base 0) _ _ _ w.marked)
     where
       go : ((eqb o.base 0 ≡ true) × (◌≡◌ {A = Result ℕ ℕ} (Ok terms.q) (Ok w.start)))
-          ⊎ ((eqb o.base 0 ≡ false) × (grouped signer_of (exactly accepts 5 0 o.base (mark_at rs o.base terms.q)) terms.n terms.q terms.q 0 (drop terms.q rs) ≡ Ok w.start))
-          → grouped signer_of (exactly accepts 5 0 o.base o.mark) terms.n terms.q terms.q 0 (drop terms.q rs) ≡ Ok w.start
+          ⊎ ((eqb o.base 0 ≡ false) × (grouped signer_of (exactly accepts Checkpoint 0 o.base (mark_at rs o.base terms.q)) terms.n terms.q terms.q 0 (drop terms.q rs) ≡ Ok w.start))
+          → grouped signer_of (exactly accepts Checkpoint 0 o.base o.mark) terms.n terms.q terms.q 0 (drop terms.q rs) ≡ Ok w.start
       go (inl k) = absurd (omega (arith, eqb-true o.base 0 k.0))
-      go (inr k) = subst (λ (m : DigestValue). grouped signer_of (exactly accepts 5 0 o.base m) terms.n terms.q terms.q 0 (drop terms.q rs) ≡ Ok w.start) (sym w.mark_is) k.1
+      go (inr k) = subst (λ (m : DigestValue). grouped signer_of (exactly accepts Checkpoint 0 o.base m) terms.n terms.q terms.q 0 (drop terms.q rs) ≡ Ok w.start) (sym w.mark_is) k.1
 
   marks_cover : (o : Opened) (w : Parts accepts terms rs o) → Covered accepts terms rs terms.q w.start
   marks_cover o w = go (went (eqb o.base 0) _ _ _ w.marked)
     where
       go : ((eqb o.base 0 ≡ true) × (◌≡◌ {A = Result ℕ ℕ} (Ok terms.q) (Ok w.start)))
-          ⊎ ((eqb o.base 0 ≡ false) × (grouped signer_of (exactly accepts 5 0 o.base (mark_at rs o.base terms.q)) terms.n terms.q terms.q 0 (drop terms.q rs) ≡ Ok w.start))
+          ⊎ ((eqb o.base 0 ≡ false) × (grouped signer_of (exactly accepts Checkpoint 0 o.base (mark_at rs o.base terms.q)) terms.n terms.q terms.q 0 (drop terms.q rs) ≡ Ok w.start))
           → Covered accepts terms rs terms.q w.start
       go (inl h) = λ i l u k. let z = ok_is terms.q w.start h.1 in absurd (omega arith)
       go (inr h) =
           let mark = mark_at rs o.base terms.q in
-          group_covers accepts terms rs (exactly accepts 5 0 o.base mark) terms.q terms.q w.start (λ r k. (exact_is accepts 5 0 o.base mark r k).1) (groups.stood signer_of (exactly accepts 5 0 o.base mark) terms.n terms.q terms.q 0 (drop terms.q rs) w.start h.1)
+          group_covers accepts terms rs (exactly accepts Checkpoint 0 o.base mark) terms.q terms.q w.start (λ r k. (exact_is accepts Checkpoint 0 o.base mark r k).1) (groups.stood signer_of (exactly accepts Checkpoint 0 o.base mark) terms.n terms.q terms.q 0 (drop terms.q rs) w.start h.1)
 
   pub accepted_at : (o : Opened) → Parts accepts terms rs o → (i : ℕ) → i < length rs → accepts (get_or rs i none).statement (get_or rs i none).seal ≡ true
   accepted_at o w i h =
@@ -88,15 +92,15 @@ module _ (accepts : Statement → ℕ → Bool) (terms : Terms) (rs : List Seale
       covers accepts terms rs 0 terms.q w.end a (covers accepts terms rs terms.q w.start w.end b c) i (omega arith) (omega (arith, w.whole)) h
 
   -- the whole group of them
-  marks_whole : (o : Opened) (w : Parts accepts terms rs o) → 0 < o.base → Whole signer_of (exactly accepts 5 0 o.base o.mark) terms.n terms.q (checkpoint_group terms.q rs o)
+  marks_whole : (o : Opened) (w : Parts accepts terms rs o) → 0 < o.base → Whole signer_of (exactly accepts Checkpoint 0 o.base o.mark) terms.n terms.q (checkpoint_group terms.q rs o)
   marks_whole o w h =
       let e = marks_stood o w h in
-      let st = groups.stood signer_of (exactly accepts 5 0 o.base o.mark) terms.n terms.q terms.q 0 (drop terms.q rs) w.start e in
+      let st = groups.stood signer_of (exactly accepts Checkpoint 0 o.base o.mark) terms.n terms.q terms.q 0 (drop terms.q rs) w.start e in
       let there : take terms.q (drop terms.q rs) ≡ checkpoint_group terms.q rs o = sym (cond-false (eqb o.base 0) [] (take terms.q (drop terms.q rs)) (ne_eqb o.base 0 (λ z. omega arith))) in
-      subst (Whole signer_of (exactly accepts 5 0 o.base o.mark) terms.n terms.q) there (record {
+      subst (Whole signer_of (exactly accepts Checkpoint 0 o.base o.mark) terms.n terms.q) there (record {
         long = length-take-le terms.q (drop terms.q rs) st.enough;
         ascends = st.ascends;
-        counted = groups.counted signer_of (exactly accepts 5 0 o.base o.mark) terms.n terms.q terms.q (drop terms.q rs) w.start e;
+        counted = groups.counted signer_of (exactly accepts Checkpoint 0 o.base o.mark) terms.n terms.q terms.q (drop terms.q rs) w.start e;
         passes = st.passes;
       })
 
@@ -167,7 +171,7 @@ module _ (accepts : Statement → ℕ → Bool) (terms : Terms) (honest : ℕ �
   C s = get_or o.claims (s - o.base - 1) no_claim
 
   -- a group of which each honest signer issued its record
-  issued_group : (kind e s : ℕ) (d : DigestValue) (p p' : ℕ) → AllByRecursion Fair rs → Stood signer_of (exactly accepts kind e s d) terms.n terms.q p 0 (drop p rs) p'
+  issued_group : (kind : Kind) (e s : ℕ) (d : DigestValue) (p p' : ℕ) → AllByRecursion Fair rs → Stood signer_of (exactly accepts kind e s d) terms.n terms.q p 0 (drop p rs) p'
       → Backed terms.n terms.q honest (λ i. Issued (record { kind = kind; signer = i; epoch = e; number = s; held = 0; digest = d }))
   issued_group kind e s d p p' fair st =
       let ps : List Sealed = take terms.q (drop p rs) in
@@ -248,11 +252,11 @@ module _ (accepts : Statement → ℕ → Bool) (terms : Terms) (honest : ℕ �
     backed s l h =
         let a = near (s - o.base - 1) h in
         let c = (claim_of s l (omega arith)).backed h in
-        issued_group 3 (highest_of o s) s (digest_of o s) c.0 c.1 fair c.2
+        issued_group Prepare (highest_of o s) s (digest_of o s) c.0 c.1 fair c.2
 
     marked : 0 < o.base → Backed terms.n terms.q honest (λ i. Issued (checkpoint_by i o.base o.mark))
     marked h =
-        issued_group 5 0 o.base o.mark terms.q w.start fair (groups.stood signer_of (exactly accepts 5 0 o.base o.mark) terms.n terms.q terms.q 0 (drop terms.q rs) w.start (marks_stood accepts terms rs o w h))
+        issued_group Checkpoint 0 o.base o.mark terms.q w.start fair (groups.stood signer_of (exactly accepts Checkpoint 0 o.base o.mark) terms.n terms.q terms.q 0 (drop terms.q rs) w.start (marks_stood accepts terms rs o w h))
 
     said : (t : Sealed) → Has (take terms.q rs) t → honest (signer_of t) ≡ true → Said Issued terms.epoch (signer_of t) o
     said t mem hon =

@@ -16,6 +16,8 @@ use Rattle.dossier.specs.declared.parts.Claim.{Claim}
 use Rattle.dossier.specs.declared.tally.Found.{Found}
 use Rattle.dossier.specs.declared.tally.Span.{Span}
 use Rattle.dossier.specs.Walk.{onward, or_fault, asked, last_asked, held_one, helds_from, found, numbers, reach, no_claim, larger, largest, stable_fits}
+use Rattle.wire.specs.declared.kinds.Kind.TheVariants.{Stable}
+use Rattle.wire.specs.Kinds.{same_kind}
 
 pub last_step : (s j last : ℕ) (ts : List Sealed) (b : Bool) → j < length ts → b ≡ asked s (get_or ts j none) → last_asked s j last (drop j ts) ≡ last_asked s (j + 1) (cond b j last) (drop (j + 1) ts)
 last_step s j last ts b h e =
@@ -84,7 +86,7 @@ largest_below m b (t ∷ ts) h a = largest_below m (larger b t) ts (omega (arith
 pub stable_low : (accepts : Statement → ℕ → Bool) (terms : Terms) (t : Sealed) → stable_fits accepts terms t ≡ true → t.statement.number ≤ 1000000000000
 stable_low accepts terms t h =
     let st = t.statement in
-    let a = and_parts (eqb st.kind 6) _ h in
+    let a = and_parts (same_kind st.kind Stable) _ h in
     let b = and_parts (eqb st.epoch terms.epoch) _ a.1 in
     let c = and_parts (eqb (st.number % 16) 0) _ b.1 in
     leb-true _ _ (and_parts (leb st.number 1000000000000) _ c.1).0

@@ -16,6 +16,7 @@ use Rattle.dossier.specs.declared.tally.Span.{Span}
 use Rattle.dossier.specs.Walk.{onward, or_fault, mark_at, asked, last_asked, blank, stable_fits, quorum_from, held_one, helds_from, helds, found, numbers, checkpoints, largest, walked}
 use Rattle.dossier.specs.Laws.{RefusedWithin}
 use Rattle.dossier.proofs.Shown.{one_passed}
+use Rattle.wire.specs.declared.kinds.Kind.TheVariants.{Prepare, Checkpoint}
 
 -- the place after a part, or the index of its fault
 abbrev Within : {A : Type 0} → ℕ → (A → ℕ) → Result A ℕ → Type 0
@@ -52,7 +53,7 @@ module _ (accepts : Statement → ℕ → Bool) (terms : Terms) (rs : List Seale
       within_onward (length rs) (λ (g : Helds). g.next) (λ (f : Found). f.next) (helds accepts terms rs s place ts) _ (helds_within s (last_asked s 0 0 ts) 0 blank place ts h)
       (λ g k. cond_both {A = Result Found ℕ} (eqb g.tally.epoch 0) _ _ (Within (length rs) (λ (f : Found). f.next))
       (λ _. k)
-      (λ _. within_onward (length rs) (λ p. p) (λ (f : Found). f.next) (quorum_from accepts terms rs (exactly accepts 3 g.tally.epoch s g.tally.digest) g.next) _ (quorum_within _ g.next k) (λ p l. l)))
+      (λ _. within_onward (length rs) (λ p. p) (λ (f : Found). f.next) (quorum_from accepts terms rs (exactly accepts Prepare g.tally.epoch s g.tally.digest) g.next) _ (quorum_within _ g.next k) (λ p l. l)))
 
   numbers_within : (ts : List Sealed) (k s place : ℕ) (cs : List Claim) → place ≤ length rs → Within (length rs) (λ (w : Span). w.next) (numbers accepts terms rs ts k s place cs)
   unfolding numbers
@@ -62,7 +63,7 @@ module _ (accepts : Statement → ℕ → Bool) (terms : Terms) (rs : List Seale
 
   checkpoints_within : (base place : ℕ) → place ≤ length rs → Within (length rs) (λ p. p) (checkpoints accepts terms rs base place)
   checkpoints_within base place h =
-      cond_both {A = Result ℕ ℕ} (eqb base 0) _ _ (Within (length rs) (λ p. p)) (λ _. h) (λ _. quorum_within (exactly accepts 5 0 base (mark_at rs base place)) place h)
+      cond_both {A = Result ℕ ℕ} (eqb base 0) _ _ (Within (length rs) (λ p. p)) (λ _. h) (λ _. quorum_within (exactly accepts Checkpoint 0 base (mark_at rs base place)) place h)
 
   all_within : Within (length rs) (λ (o : Opened). 0) (walked accepts terms rs)
   all_within =

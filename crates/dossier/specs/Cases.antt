@@ -6,12 +6,14 @@ use Rattle.wire.specs.declared.records.DigestValue.{DigestValue}
 use Rattle.wire.specs.Values.{value_of}
 use Rattle.dossier.specs.declared.parts.Opened.{Opened}
 use Rattle.dossier.specs.Walk.{walked, top, chosen}
+use Rattle.wire.specs.declared.kinds.Kind.TheVariants.{Prepare, Checkpoint, Stable, Held}
+use Rattle.wire.specs.declared.kinds.Kind.{Kind}
 
 -- a genuine record has seal 5
 abbrev pub fives : Statement → ℕ → Bool
 fives st seal = seal == 5
 
-abbrev pub said : ℕ → ℕ → ℕ → ℕ → ℕ → ℕ → Sealed
+abbrev pub said : Kind → ℕ → ℕ → ℕ → ℕ → ℕ → Sealed
 said kind signer epoch number held digest =
     record { statement = record { kind = kind; signer = signer; epoch = epoch; number = number; held = held; digest = value_of digest }; seal = 5 }
 
@@ -19,16 +21,16 @@ abbrev pub forged : Sealed → Sealed
 forged r = record { statement = r.statement; seal = 6 }
 
 abbrev pub stable : ℕ → ℕ → Sealed
-stable i s = said 6 i 3 s 0 0
+stable i s = said Stable i 3 s 0 0
 
 abbrev pub checkpoint : ℕ → ℕ → ℕ → Sealed
-checkpoint i s mark = said 5 i 0 s 0 mark
+checkpoint i s mark = said Checkpoint i 0 s 0 mark
 
 abbrev pub held : ℕ → ℕ → ℕ → ℕ → Sealed
-held i s e d = said 7 i 3 s e d
+held i s e d = said Held i 3 s e d
 
 abbrev pub prepare : ℕ → ℕ → ℕ → ℕ → Sealed
-prepare i e s d = said 3 i e s 0 d
+prepare i e s d = said Prepare i e s 0 d
 
 -- the held statements of s: of 0 and 1 as given, and of 3, whose stable number is 0, none, up to 32
 abbrev pub at_number : ℕ → ℕ → ℕ → ℕ → ℕ → List Sealed
@@ -93,9 +95,9 @@ pub record Cases : Type 0 where
   pub signer_high : judged (slice_set dossier 2 (stable 4 0)) ≡ Err 2
   pub signer_twice : judged (slice_set dossier 1 (stable 0 16)) ≡ Err 1
   -- a field that is not used; no multiple of 16; another epoch
-  pub unused : judged (slice_set dossier 1 (said 6 1 3 16 0 1)) ≡ Err 1
+  pub unused : judged (slice_set dossier 1 (said Stable 1 3 16 0 1)) ≡ Err 1
   pub no_multiple : judged (slice_set dossier 2 (stable 3 8)) ≡ Err 2
-  pub other_epoch : judged (slice_set dossier 0 (said 6 0 2 16 0 0)) ≡ Err 0
+  pub other_epoch : judged (slice_set dossier 0 (said Stable 0 2 16 0 0)) ≡ Err 0
   -- checkpoints have one mark, which the first sets
   pub two_marks : judged (slice_set dossier 4 (checkpoint 1 16 8)) ≡ Err 4
   -- a signer left out shows as a wrong record there

@@ -11,19 +11,20 @@ use Rattle.group.specs.Group.{exactly, Whole}
 use Rattle.dossier.specs.declared.parts.Terms.{Terms}
 use Rattle.dossier.specs.declared.parts.Opened.{Opened}
 use Rattle.dossier.specs.Walk.{no_claim, walked, top, chosen, checkpoint_group}
+use Rattle.wire.specs.declared.kinds.Kind.TheVariants.{Prepare, Checkpoint, Stable, Held}
 
 -- the statements of a dossier, by controller i
 abbrev pub prepare_by : ℕ → ℕ → ℕ → DigestValue → Statement
-prepare_by i epoch s d = record { kind = 3; signer = i; epoch = epoch; number = s; held = 0; digest = d }
+prepare_by i epoch s d = record { kind = Prepare; signer = i; epoch = epoch; number = s; held = 0; digest = d }
 
 abbrev pub checkpoint_by : ℕ → ℕ → DigestValue → Statement
-checkpoint_by i s mark = record { kind = 5; signer = i; epoch = 0; number = s; held = 0; digest = mark }
+checkpoint_by i s mark = record { kind = Checkpoint; signer = i; epoch = 0; number = s; held = 0; digest = mark }
 
 abbrev pub stable_by : ℕ → ℕ → ℕ → Statement
-stable_by i epoch m = record { kind = 6; signer = i; epoch = epoch; number = m; held = 0; digest = value_of 0 }
+stable_by i epoch m = record { kind = Stable; signer = i; epoch = epoch; number = m; held = 0; digest = value_of 0 }
 
 abbrev pub held_by : ℕ → ℕ → ℕ → ℕ → DigestValue → Statement
-held_by i epoch s e d = record { kind = 7; signer = i; epoch = epoch; number = s; held = e; digest = d }
+held_by i epoch s e d = record { kind = Held; signer = i; epoch = epoch; number = s; held = e; digest = d }
 
 -- the highest held epoch of a number above the base, and the digest that goes with it
 abbrev pub highest_of : Opened → ℕ → ℕ
@@ -93,6 +94,6 @@ RefusedWithin = (accepts : Statement → ℕ → Bool) (terms : Terms) (rs : Lis
 pub record Admitted (accepts : Statement → ℕ → Bool) (terms : Terms) (rs : List Sealed) (o : Opened) : Type 0 where
   pub low : o.base ≤ 1000000000000
   pub aligned : o.base % 16 ≡ 0
-  pub marks : 0 < o.base → Whole signer_of (exactly accepts 5 0 o.base o.mark) terms.n terms.q (checkpoint_group terms.q rs o)
+  pub marks : 0 < o.base → Whole signer_of (exactly accepts Checkpoint 0 o.base o.mark) terms.n terms.q (checkpoint_group terms.q rs o)
   pub accepted : AllByRecursion (Genuine accepts) rs
   pub sound : (honest : ℕ → Bool) (issued : Statement → Bool) → SealsHold accepts honest (λ st. issued st ≡ true) rs → Sound terms honest (λ st. issued st ≡ true) o

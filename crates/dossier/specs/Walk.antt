@@ -15,6 +15,8 @@ use Rattle.dossier.specs.declared.tally.Tally.{Tally}
 use Rattle.dossier.specs.declared.tally.Helds.{Helds}
 use Rattle.dossier.specs.declared.tally.Found.{Found}
 use Rattle.dossier.specs.declared.tally.Span.{Span}
+use Rattle.wire.specs.declared.kinds.Kind.TheVariants.{Prepare, Checkpoint, Stable, Held}
+use Rattle.wire.specs.Kinds.{same_kind}
 
 -- a part of the walk and, unless it found a fault, the next
 abbrev pub onward : {A B : Type 0} → Result A ℕ → (A → Result B ℕ) → Result B ℕ
@@ -66,7 +68,7 @@ tallied c st =
 -- a held statement of a signer for s and the new epoch, its seal aside: it holds an epoch below the new one, or none and digest 0
 abbrev pub held_fits : ℕ → ℕ → ℕ → Statement → Bool
 held_fits epoch s signer st =
-    (st.kind == 7) && (st.signer == signer && (st.epoch == epoch && (st.number == s
+    (same_kind st.kind Held) && (st.signer == signer && (st.epoch == epoch && (st.number == s
     && (nat_lt st.held epoch && (not (st.held == 0) || same_digest st.digest (value_of 0))))))
 
 module _ (accepts : Statement → ℕ → Bool) (terms : Terms) where
@@ -74,7 +76,7 @@ module _ (accepts : Statement → ℕ → Bool) (terms : Terms) where
   abbrev pub stable_fits : Sealed → Bool
   stable_fits r =
       let st = r.statement in
-      (st.kind == 6) && (st.epoch == terms.epoch && (st.number % 16 == 0 && (nat_le st.number 1000000000000
+      (same_kind st.kind Stable) && (st.epoch == terms.epoch && (st.number % 16 == 0 && (nat_le st.number 1000000000000
       && (st.held == 0 && (same_digest st.digest (value_of 0) && accepts st r.seal)))))
 
   -- rs: the whole dossier, in which every part begins at a place
@@ -112,7 +114,7 @@ module _ (accepts : Statement → ℕ → Bool) (terms : Terms) where
         let claim : Claim = record { epoch = g.tally.epoch; digest = g.tally.digest } in
         cond (claim.epoch == 0)
         (Ok (record { claim = claim; next = g.next }))
-        (onward (quorum_from (exactly accepts 3 claim.epoch s claim.digest) g.next) (λ p. Ok (record { claim = claim; next = p }))))
+        (onward (quorum_from (exactly accepts Prepare claim.epoch s claim.digest) g.next) (λ p. Ok (record { claim = claim; next = p }))))
 
     -- the claims of k numbers from s on, after those that were found
     unfoldable pub numbers : List Sealed → ℕ → ℕ → ℕ → List Claim → Result Span ℕ
@@ -121,7 +123,7 @@ module _ (accepts : Statement → ℕ → Bool) (terms : Terms) where
 
     -- the place after q checkpoints for the base, none for base 0
     abbrev pub checkpoints : ℕ → ℕ → Result ℕ ℕ
-    checkpoints base place = cond (base == 0) (Ok place) (quorum_from (exactly accepts 5 0 base (mark_at rs base place)) place)
+    checkpoints base place = cond (base == 0) (Ok place) (quorum_from (exactly accepts Checkpoint 0 base (mark_at rs base place)) place)
 
     -- what follows the stable statements, which end at a place: nothing may come after it
     abbrev pub after_stables : ℕ → ℕ → Result Opened ℕ

@@ -5,7 +5,7 @@ ghost use Rattle.dossier.specs.Walk.{asked, last_asked, tallied, held_fits, held
 use crate::tally::{Helds, Tally};
 use crate::target::Target;
 use seal::checker::SealChecker;
-use wire::kinds::HELD;
+use wire::kinds::Kind;
 use wire::records::{DigestValue, Sealed, Statement};
 
 // Whether the signer of a stable statement owes a held statement for s: its stable number is at
@@ -31,6 +31,7 @@ fn last_place(stables: &[Sealed], s: u64) -> usize
 
 impl Tally {
     // One more held statement.
+    #[tactic(auto, unfolding(wire::specs::Values::same_digest))]
     fn with(&self, st: &Statement) -> Tally
         ensures { result ≡ tallied self.now st.now }
     {
@@ -41,7 +42,7 @@ impl Tally {
                 clash: false,
             };
         }
-        if st.held == self.epoch && !st.digest.equals(&self.digest) {
+        if st.held == self.epoch && st.digest != self.digest {
             return Tally {
                 epoch: self.epoch,
                 digest: self.digest,
@@ -53,15 +54,16 @@ impl Tally {
 }
 
 // Whether a statement is the held statement of a signer for s and the new epoch, its seal aside.
+#[tactic(auto, unfolding(wire::specs::Values::same_digest))]
 fn fits_held(st: &Statement, epoch: u32, s: u64, signer: u8) -> bool
     ensures { result ≡ held_fits epoch s signer st.now }
 {
-    st.kind == HELD
+    st.kind == Kind::Held
         && st.signer == signer
         && st.epoch == epoch
         && st.number == s
         && st.held < epoch
-        && (st.held != 0 || st.digest.equals(&DigestValue::from_number(0)))
+        && (st.held != 0 || st.digest == DigestValue::from(0))
 }
 
 // A record that is looked for: a number, its signer, and whether it is the last of its number.
@@ -107,7 +109,7 @@ impl<C: SealChecker> Target<'_, C> {
         let last = last_place(stables, s);
         let mut tally = Tally {
             epoch: 0,
-            digest: DigestValue::from_number(0),
+            digest: DigestValue::from(0),
             clash: false,
         };
         let mut next = place;

@@ -5,7 +5,7 @@ ghost use Rattle.dossier.specs.Walk.{stable_fits, largest};
 use crate::target::Target;
 use group::rules::Rule;
 use seal::checker::SealChecker;
-use wire::kinds::STABLE;
+use wire::kinds::Kind;
 use wire::records::{DigestValue, Sealed};
 
 // The largest number there is.
@@ -15,14 +15,15 @@ const LAST: u64 = 1_000_000_000_000;
 impl<'a, C: SealChecker> Rule<Sealed> for Target<'a, C> {
     ghost allows = { λ w r. stable_fits (C.SealChecker.accepts w.checker.now) w.terms r };
 
+    #[tactic(auto, unfolding(wire::specs::Values::same_digest))]
     fn allowed(&self, x: &Sealed) -> bool {
         let st = x.statement;
-        st.kind == STABLE
+        st.kind == Kind::Stable
             && st.epoch == self.terms.epoch
             && st.number % 16 == 0
             && st.number <= LAST
             && st.held == 0
-            && st.digest.equals(&DigestValue::from_number(0))
+            && st.digest == DigestValue::from(0)
             && self.checker.genuine(&st, x.seal)
     }
 }

@@ -10,7 +10,7 @@ use crate::target::Target;
 use group::check::group;
 use group::rules::Exact;
 use seal::checker::SealChecker;
-use wire::kinds::{CHECKPOINT, PREPARE};
+use wire::kinds::Kind;
 use wire::records::{DigestValue, Sealed};
 
 // The mark of the checkpoints at a place, 0 for base 0.
@@ -18,10 +18,10 @@ fn mark_of(records: &[Sealed], base: u64, place: usize) -> DigestValue
     ensures { result ≡ mark_at records.now base place }
 {
     if base == 0 {
-        return DigestValue::from_number(0);
+        return DigestValue::from(0);
     }
     if place >= records.len() {
-        return DigestValue::from_number(0);
+        return DigestValue::from(0);
     }
     records[place].statement.digest
 }
@@ -50,7 +50,7 @@ impl<C: SealChecker> Target<'_, C> {
         }
         let rule = Exact {
             checker: self.checker,
-            kind: PREPARE,
+            kind: Kind::Prepare,
             epoch: claim.epoch,
             number: s,
             digest: claim.digest,
@@ -72,7 +72,7 @@ impl<C: SealChecker> Target<'_, C> {
     {
         let mut claims = [Claim {
             epoch: 0,
-            digest: DigestValue::from_number(0),
+            digest: DigestValue::from(0),
         }; 32];
         let mut next = place;
         for k in 0..32usize {
@@ -99,7 +99,7 @@ impl<C: SealChecker> Target<'_, C> {
         }
         let rule = Exact {
             checker: self.checker,
-            kind: CHECKPOINT,
+            kind: Kind::Checkpoint,
             epoch: 0,
             number: base,
             digest: mark,

@@ -38,6 +38,7 @@ pub struct Exact<'a, C: SealChecker> {
 impl<'a, C: SealChecker> Rule<Sealed> for Exact<'a, C> {
     ghost allows = { λ r s. exactly (C.SealChecker.accepts r.checker.now) r.kind r.epoch r.number r.digest s };
 
+    #[tactic(auto, unfolding(wire::specs::Values::same_digest))]
     // the seal is tried last
     fn allowed(&self, x: &Sealed) -> bool {
         let st = x.statement;

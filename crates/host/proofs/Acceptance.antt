@@ -25,6 +25,7 @@ use Rattle.host.specs.Partings.{one_at, first_of, stable_in, held_in, claim_in, 
 use Rattle.host.specs.Assembly.{base_in, at_number, at_numbers, assembled}
 use Rattle.host.specs.Laws.{Quorum, Claims, TrueParting, AssemblyAccepted}
 use Rattle.host.proofs.Highest.{highest_keeps, highest_or_none, highest_above, head_of, largest_is, heads_are, held_none, held_one_of, held_of_none}
+use Rattle.wire.specs.declared.kinds.Kind.TheVariants.{Prepare, Checkpoint}
 
 -- a group that stands alone stands wherever it begins, whatever follows it
 pub grouped_on : {X : Type 0} (names : X → ℕ) (allows : X → Bool) (n place z place' least : ℕ) (xs ys : List X)
@@ -179,7 +180,7 @@ module _ (accepts : Statement → ℕ → Bool) (terms : Terms) (digests : ℕ �
         let claim : Claim = record { epoch = g.tally.epoch; digest = g.tally.digest } in
         cond (eqb claim.epoch 0)
         (Ok (record { claim = claim; next = g.next }))
-        (onward (quorum_from accepts terms rs (exactly accepts 3 claim.epoch s claim.digest) g.next) (λ p. Ok (record { claim = claim; next = p })))
+        (onward (quorum_from accepts terms rs (exactly accepts Prepare claim.epoch s claim.digest) g.next) (λ p. Ok (record { claim = claim; next = p })))
 
     no_claim_yet : (s : ℕ) → Stands s [] blank
     no_claim_yet s = record {
@@ -202,7 +203,7 @@ module _ (accepts : Statement → ℕ → Bool) (terms : Terms) (digests : ℕ �
 
     -- the prepares of the highest claim
     found_some : (s place : ℕ) (best hs pre post : List Sealed) (r : Result Helds ℕ) → 0 < claimed_epoch s best
-        → Quorum terms (exactly accepts 3 (claimed_epoch s best) s (claim_in s best).digest) (prepares_in s best)
+        → Quorum terms (exactly accepts Prepare (claimed_epoch s best) s (claim_in s best).digest) (prepares_in s best)
         → rs ≡ pre ++ (hs ++ (prepares_in s best ++ post)) → length pre ≡ place → Ran s best r (place + length hs)
         → Got (onward r (after_helds s)) (place + length (hs ++ prepares_in s best))
     found_some s place best hs pre post r some quorum is long w =
@@ -212,9 +213,9 @@ module _ (accepts : Statement → ℕ → Bool) (terms : Terms) (digests : ℕ �
         let above : 0 < g.tally.epoch = omega (arith, w.stands.epoch) in
         let left : drop end rs ≡ backed ++ post =
         ap (drop end) (is ∙ sym (append_assoc pre hs (backed ++ post))) ∙ drop_at (pre ++ hs) (backed ++ post) end (omega (arith, length-append pre hs)) in
-        let stood : quorum_from accepts terms rs (exactly accepts 3 g.tally.epoch s g.tally.digest) g.next ≡ Ok (end + terms.q) =
-        (λ i. grouped signer_of (exactly accepts 3 (w.stands.epoch i) s (w.stands.digest i)) terms.n terms.q (w.next i) 0 (drop (w.next i) rs))
-        ∙ ap (grouped signer_of (exactly accepts 3 (claimed_epoch s best) s (claim_in s best).digest) terms.n terms.q end 0) left
+        let stood : quorum_from accepts terms rs (exactly accepts Prepare g.tally.epoch s g.tally.digest) g.next ≡ Ok (end + terms.q) =
+        (λ i. grouped signer_of (exactly accepts Prepare (w.stands.epoch i) s (w.stands.digest i)) terms.n terms.q (w.next i) 0 (drop (w.next i) rs))
+        ∙ ap (grouped signer_of (exactly accepts Prepare (claimed_epoch s best) s (claim_in s best).digest) terms.n terms.q end 0) left
         ∙ quorum_on _ end backed post quorum in
         record {
           value = record { claim = record { epoch = g.tally.epoch; digest = g.tally.digest }; next = end + terms.q };
@@ -236,7 +237,7 @@ module _ (accepts : Statement → ℕ → Bool) (terms : Terms) (digests : ℕ �
           | inl nobody ↦ found_none s place best hs _ nobody w
           | inr some ↦
               found_some s place best hs pre post _ some
-              (highest_keeps (claimed_epoch s) (λ p. 0 < claimed_epoch s p → Quorum terms (exactly accepts 3 (claimed_epoch s p) s (claim_in s p).digest) (prepares_in s p)) [] ps
+              (highest_keeps (claimed_epoch s) (λ p. 0 < claimed_epoch s p → Quorum terms (exactly accepts Prepare (claimed_epoch s p) s (claim_in s p).digest) (prepares_in s p)) [] ps
               (λ z. absurd (omega (arith, ap (λ l. (first_of l).held) (held_of_none s)))) (All-weaker _ _ (λ p t. t.prepares s) ps all) some)
               is' long w
         ]
@@ -274,7 +275,7 @@ module _ (accepts : Statement → ℕ → Bool) (terms : Terms) (digests : ℕ �
         | inl nobody ↦
             cond-true _ _ _ (eq-eqb (base_in ps) 0 (ap stable_in nobody)) ∙ ap Ok (omega (arith, ap (λ p. length (checkpoints_in p)) nobody))
         | inr some ↦
-            let quorum = highest_keeps stable_in (λ p. 0 < stable_in p → Quorum terms (exactly accepts 5 0 (stable_in p) (first_of (checkpoints_in p)).digest) (checkpoints_in p)) [] ps
+            let quorum = highest_keeps stable_in (λ p. 0 < stable_in p → Quorum terms (exactly accepts Checkpoint 0 (stable_in p) (first_of (checkpoints_in p)).digest) (checkpoints_in p)) [] ps
             (λ z. absurd (omega arith)) (All-weaker _ _ (λ p t. t.checkpoints) ps all) some in
             let above : eqb (base_in ps) 0 ≡ false = ne_eqb (base_in ps) 0 (λ e. omega arith) in
             let same_place : terms.q + 0 ≡ terms.q = omega arith in
@@ -282,8 +283,8 @@ module _ (accepts : Statement → ℕ → Bool) (terms : Terms) (digests : ℕ �
             cond-false _ _ _ above ∙ ap (λ n. (get_or rs n none).statement.digest) (sym same_place)
             ∙ ap (λ r. r.statement.digest) (sym (get_or-drop terms.q rs 0 none)) ∙ ap (λ l. (first_of l).digest) left in
             cond-false _ _ _ above
-            ∙ (λ i. grouped signer_of (exactly accepts 5 0 (base_in ps) (mark i)) terms.n terms.q terms.q 0 (left i))
-            ∙ grouped_marked (λ d. exactly accepts 5 0 (base_in ps) d) terms.n terms.q terms.q terms.q cks post quorum.long quorum.stands
+            ∙ (λ i. grouped signer_of (exactly accepts Checkpoint 0 (base_in ps) (mark i)) terms.n terms.q terms.q 0 (left i))
+            ∙ grouped_marked (λ d. exactly accepts Checkpoint 0 (base_in ps) d) terms.n terms.q terms.q terms.q cks post quorum.long quorum.stands
             ∙ ap (λ n. Ok (terms.q + n)) (sym quorum.long)
       ]
 

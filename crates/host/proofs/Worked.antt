@@ -12,6 +12,7 @@ use Rattle.host.specs.Partings.{first_of, stable_in, held_in, claim_in, claimed_
 use Rattle.host.specs.Laws.{Quorum, Claims}
 use Rattle.host.specs.Cases.{in_epoch_3, certified, parting_0, parting_1, parting_3, Premises}
 use Rattle.host.proofs.Highest.{held_none}
+use Rattle.wire.specs.declared.kinds.Kind.TheVariants.{Prepare}
 
 -- a test of each number below k
 abbrev all_below : ℕ → (ℕ → Bool) → Bool
@@ -46,7 +47,7 @@ claim_test p s =
     held_fits 3 s (first_of p).signer r.statement && (eqb r.seal 5 && same_digest r.statement.digest (certified r.statement.held s))
 
 abbrev prepares_test : List Sealed → ℕ → Bool
-prepares_test p s = not (ltb 0 (claimed_epoch s p)) || quorum_test (exactly fives 3 (claimed_epoch s p) s (claim_in s p).digest) (prepares_in s p)
+prepares_test p s = not (ltb 0 (claimed_epoch s p)) || quorum_test (exactly fives Prepare (claimed_epoch s p) s (claim_in s p).digest) (prepares_in s p)
 
 module _ (p : List Sealed) where
   claims_shown : all_below 32 (λ i. claim_test p (stable_in p + 1 + i)) ≡ true → (s : ℕ) → stable_in p < s → s ≤ stable_in p + 32
@@ -61,7 +62,7 @@ module _ (p : List Sealed) where
       record { fits = a.0; genuine = b.0; one_digest = same_digest_is r.statement.digest (certified r.statement.held s) b.1 }
 
   prepares_shown : all_below 32 (λ i. prepares_test p (stable_in p + 1 + i)) ≡ true → (s : ℕ) → 0 < claimed_epoch s p
-      → Quorum in_epoch_3 (exactly fives 3 (claimed_epoch s p) s (claim_in s p).digest) (prepares_in s p)
+      → Quorum in_epoch_3 (exactly fives Prepare (claimed_epoch s p) s (claim_in s p).digest) (prepares_in s p)
   prepares_shown e s some =
       elim (cases_lt (stable_in p) s) [
         | inl low ↦ elim (cases_lt (stable_in p + 32) s) [

@@ -12,6 +12,7 @@ use Rattle.host.specs.Keys.{tag_of}
 use Rattle.host.specs.Partings.{one_at}
 use Rattle.host.specs.Assembly.{base_in, assembled}
 use Rattle.host.specs.Laws.{Quorum, TrueParting}
+use Rattle.wire.specs.declared.kinds.Kind.TheVariants.{Request}
 
 -- PARTINGS, by controller i with seal 5, for epoch 3
 
@@ -47,7 +48,7 @@ abbrev pub a_prepare : Statement
 a_prepare = (prepare 2 3 17 77).statement
 
 abbrev pub an_order : Statement
-an_order = record { kind = 1; signer = 2; epoch = 0; number = 17; held = 0; digest = value_of 77 }
+an_order = record { kind = Request; signer = 2; epoch = 0; number = 17; held = 0; digest = value_of 77 }
 
 pub record Cases : Type 0 where
   -- the three partings give the worked dossier of 92 records, and the walk accepts it

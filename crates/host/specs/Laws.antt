@@ -12,6 +12,7 @@ use Rattle.dossier.specs.declared.parts.Opened.{Opened}
 use Rattle.dossier.specs.Walk.{stable_fits, held_fits, walked}
 use Rattle.host.specs.Partings.{one_at, first_of, stable_in, claim_in, claimed_epoch, checkpoints_in, prepares_in}
 use Rattle.host.specs.Assembly.{base_in, assembled}
+use Rattle.wire.specs.declared.kinds.Kind.TheVariants.{Prepare, Checkpoint}
 
 -- exactly q records, by ascending signers below n, that keep a rule
 pub record Quorum (terms : Terms) (allows : Sealed → Bool) (rs : List Sealed) : Type 0 where
@@ -31,8 +32,8 @@ module _ (accepts : Statement → ℕ → Bool) (terms : Terms) (digests : ℕ �
     pub there : 0 < length p
     pub reaches : (s : ℕ) → stable_in p < s → s ≤ stable_in p + 32 → s - stable_in p < length p
     pub claims : (s : ℕ) → stable_in p < s → s ≤ stable_in p + 32 → Claims (first_of p).signer s (slice_index_or p (s - stable_in p) none)
-    pub checkpoints : 0 < stable_in p → Quorum terms (exactly accepts 5 0 (stable_in p) (first_of (checkpoints_in p)).digest) (checkpoints_in p)
-    pub prepares : (s : ℕ) → 0 < claimed_epoch s p → Quorum terms (exactly accepts 3 (claimed_epoch s p) s (claim_in s p).digest) (prepares_in s p)
+    pub checkpoints : 0 < stable_in p → Quorum terms (exactly accepts Checkpoint 0 (stable_in p) (first_of (checkpoints_in p)).digest) (checkpoints_in p)
+    pub prepares : (s : ℕ) → 0 < claimed_epoch s p → Quorum terms (exactly accepts Prepare (claimed_epoch s p) s (claim_in s p).digest) (prepares_in s p)
 
 -- true partings, whose stable statements are those of q controllers by ascending signers, give a dossier that the walk accepts,
 -- with the base that was foretold

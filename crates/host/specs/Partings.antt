@@ -6,6 +6,8 @@ use Rattle.wire.specs.Values.{same_digest}
 use Rattle.wire.specs.declared.records.Statement.{Statement}
 use Rattle.wire.specs.declared.records.Sealed.{Sealed}
 use Rattle.seal.specs.Records.{none}
+use Rattle.wire.specs.declared.kinds.Kind.TheVariants.{Prepare, Checkpoint}
+use Rattle.wire.specs.Kinds.{same_kind}
 
 -- the record at a place, if there is one
 abbrev pub one_at : ℕ → List Sealed → List Sealed
@@ -31,7 +33,7 @@ claimed_epoch s p = (claim_in s p).held
 
 -- the checkpoints of the stable number
 abbrev pub is_checkpoint : ℕ → Sealed → Bool
-is_checkpoint number r = r.statement.kind == 5 && r.statement.number == number
+is_checkpoint number r = same_kind r.statement.kind Checkpoint && r.statement.number == number
 
 abbrev pub checkpoints_in : List Sealed → List Sealed
 checkpoints_in p = filter (is_checkpoint (stable_in p)) p
@@ -40,7 +42,7 @@ checkpoints_in p = filter (is_checkpoint (stable_in p)) p
 abbrev pub is_prepare : ℕ → Statement → Sealed → Bool
 is_prepare s claim r =
     let st = r.statement in
-    (st.kind == 3) && (st.epoch == claim.held && (st.number == s && same_digest st.digest claim.digest))
+    (same_kind st.kind Prepare) && (st.epoch == claim.held && (st.number == s && same_digest st.digest claim.digest))
 
 abbrev pub prepares_in : ℕ → List Sealed → List Sealed
 prepares_in s p = filter (is_prepare s (claim_in s p)) p

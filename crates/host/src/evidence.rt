@@ -3,23 +3,23 @@ ghost use Rattle.std.specs.Prelude.{◌≡◌, ◌++◌, filter, OnOk};
 ghost use Rattle.host.specs.Partings.{is_checkpoint, is_prepare};
 
 use std::alloc::AllocError;
-use wire::kinds::{CHECKPOINT, PREPARE};
+use wire::kinds::Kind;
 use wire::records::{Sealed, Statement};
 
 fn is_checkpoint(r: &Sealed, number: u64) -> bool
     ensures { result ≡ is_checkpoint number r.now }
 {
-    r.statement.kind == CHECKPOINT && r.statement.number == number
+    r.statement.kind == Kind::Checkpoint && r.statement.number == number
 }
 
 // Whether a record is a prepare of what a held statement claims for s.
 fn is_prepare(r: &Sealed, s: u64, claim: &Statement) -> bool
     ensures { result ≡ is_prepare s claim.now r.now }
 {
-    r.statement.kind == PREPARE
+    r.statement.kind == Kind::Prepare
         && r.statement.epoch == claim.held
         && r.statement.number == s
-        && r.statement.digest.equals(&claim.digest)
+        && r.statement.digest == claim.digest
 }
 
 // The checkpoints for a number among the records, after what stands in `out`.

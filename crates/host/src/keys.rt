@@ -8,7 +8,7 @@ ghost use Rattle.host.specs.Keys.{party_of, key_of, tag_of, sealed_by, accepted_
 
 use digest::fnv::{absorb, absorb_all, offset_basis};
 use seal::checker::SealChecker;
-use wire::kinds::REQUEST;
+use wire::kinds::Kind;
 use wire::records::{Sealed, Statement};
 
 // All parties' keys at once: each is derived from the one secret.
@@ -18,10 +18,10 @@ pub struct Keyring {
 }
 
 // Who seals a kind: 1 a client, 0 a controller.
-fn party(kind: u8) -> u8
+fn party(kind: Kind) -> u8
     ensures { result ≡ party_of kind }
 {
-    if kind == REQUEST {
+    if kind == Kind::Request {
         return 1;
     }
     0

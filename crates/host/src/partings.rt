@@ -7,7 +7,7 @@ use wire::records::{DigestValue, Sealed, Statement};
 
 // Stands for a record that is not there.
 const NOTHING: Statement = Statement {
-    kind: 0,
+    kind: Kind::Unknown(0),
     signer: 0,
     epoch: 0,
     number: 0,

@@ -46,10 +46,13 @@ use Rattle.house.proofs.Checks.{passed, both, no_request_at, no_record_at, ok_ca
 use Rattle.house.proofs.Full.{Heard, BatchOk, PlaceOk, DeliveredOk, OfferedOk, Origin, Full, grown, refused}
 use Rattle.house.proofs.Flow.{flow_node, one_full, ready_full}
 use Rattle.house.proofs.Options.{none_is_some, some_is_none, some_is}
+use Rattle.wire.specs.declared.kinds.Kind.TheVariants.{Request, Prepare, Commit, Checkpoint}
+use Rattle.wire.specs.Kinds.{same_kind}
+use Rattle.wire.proofs.KindBytes.{same_kind_is}
 
 -- what an accepted seal stands for
 pub record Vouch (honest honest_client : ℕ → Bool) (Issued AskedFor : Statement → Type 0) (st : Statement) : Type 0 where
-  pub request : st.kind ≡ 1 → honest_client st.signer ≡ true → AskedFor st
+  pub request : st.kind ≡ Request → honest_client st.signer ≡ true → AskedFor st
   pub vote : 3 ≤ st.kind → st.kind ≤ 7 → honest st.signer ≡ true → Issued st
 
 none_of : {A : Type 0} (o : Option A) → is_some o ≡ false → o ≡ None
@@ -106,18 +109,18 @@ module _ (honest honest_client : ℕ → Bool) (Issued AskedFor : Statement → 
   asked_all accepts (r ∷ rs) a v = (λ h. (v.0 a.0).request refl h, asked_all accepts rs a.1 v.1)
 
   -- commits of a list that proves a number
-  heard_all : (accepts : Statement → ℕ → Bool) (e s : ℕ) (d : DigestValue) (list : List Sealed) → AllByRecursion (λ r. exactly accepts 4 e s d r ≡ true) list
+  heard_all : (accepts : Statement → ℕ → Bool) (e s : ℕ) (d : DigestValue) (list : List Sealed) → AllByRecursion (λ r. exactly accepts Commit e s d r ≡ true) list
       → AllByRecursion (λ r. accepts r.statement r.seal ≡ true → Vouch honest honest_client Issued AskedFor r.statement) list
       → AllByRecursion (λ r. Heard honest Issued (commit_by (signer_of r) e s d)) list
   heard_all accepts e s d [] a v = tt
   heard_all accepts e s d (r ∷ rs) a v =
       let st = r.statement in
-      let k = and_parts (eqb st.kind 4) _ a.0 in
+      let k = and_parts (same_kind st.kind Commit) _ a.0 in
       let ep = and_parts (eqb st.epoch e) _ k.1 in
       let nu = and_parts (eqb st.number s) _ ep.1 in
       let he = and_parts (eqb st.held 0) _ nu.1 in
       let di = and_parts (same_digest st.digest d) _ he.1 in
-      let kind : st.kind ≡ 4 = eqb-true _ _ k.0 in
+      let kind : st.kind ≡ Commit = eqb-true _ _ k.0 in
       let is : st ≡ commit_by st.signer e s d = λ i. record { kind = kind i; signer = st.signer; epoch = eqb-true st.epoch e ep.0 i; number = eqb-true st.number s nu.0 i; held = eqb-true st.held 0 he.0 i; digest = same_digest_is st.digest d di.0 i } in
       (λ hon. subst Issued is ((v.0 di.1).vote (omega arith) (omega arith) hon), heard_all accepts e s d rs a.1 v.1)
 
@@ -332,9 +335,9 @@ module _ {X : Type 0} (value : List ℕ → DigestValue) (next : X → ℕ → �
       D = DeliveredOk value n (quorum n) honest Issued Handed
 
       -- the list proves the number
-      shown : (m : ℕ) → k.core.house.n ≡ m → (e : ℕ) → AllByRecursion (V accepts) list → list_fault signer_of (exactly accepts 4 e s (Prove.proved_digest list)) m (quorum m) list ≡ None → BatchOk value Handed (Prove.proved_digest list) rs → m ≡ n → DeliveredOk value n (quorum n) honest Issued Handed s rs
+      shown : (m : ℕ) → k.core.house.n ≡ m → (e : ℕ) → AllByRecursion (V accepts) list → list_fault signer_of (exactly accepts Commit e s (Prove.proved_digest list)) m (quorum m) list ≡ None → BatchOk value Handed (Prove.proved_digest list) rs → m ≡ n → DeliveredOk value n (quorum n) honest Issued Handed s rs
       shown m is e vs none ok size =
-          let w = whole signer_of (exactly accepts 4 e s (Prove.proved_digest list)) m (quorum m) list none in
+          let w = whole signer_of (exactly accepts Commit e s (Prove.proved_digest list)) m (quorum m) list none in
           let hs = heard_all honest honest_client Issued AskedFor accepts e s (Prove.proved_digest list) list w.passes vs in
           let qs = quorum_at signer_of m (quorum m) (λ i. Heard honest Issued (commit_by i e s (Prove.proved_digest list))) list w.ascends hs (omega (arith, w.long)) in
           record { epoch = e; digest = Prove.proved_digest list; quorum = subst (λ z. Quorum z (quorum z) (λ i. Heard honest Issued (commit_by i e s (Prove.proved_digest list)))) size qs; batch = ok }
@@ -356,8 +359,8 @@ module _ {X : Type 0} (value : List ℕ → DigestValue) (next : X → ℕ → �
           let one = one_full value next marked start n self honest honest_client Issued Handed AskedFor c k (begin next marked c k.app []) rs began (subst (λ m. D m rs) is d) in
           ready_full value next marked start n self honest honest_client Issued Handed AskedFor 32 c k _ one
         where
-          right : (b : Bool) → cond b (Some 0) (list_fault signer_of (exactly accepts 4 (get_or list 0 none-record).statement.epoch s (Prove.proved_digest list)) k.core.house.n (quorum k.core.house.n) list) ≡ None
-              → list_fault signer_of (exactly accepts 4 (get_or list 0 none-record).statement.epoch s (Prove.proved_digest list)) k.core.house.n (quorum k.core.house.n) list ≡ None
+          right : (b : Bool) → cond b (Some 0) (list_fault signer_of (exactly accepts Commit (get_or list 0 none-record).statement.epoch s (Prove.proved_digest list)) k.core.house.n (quorum k.core.house.n) list) ≡ None
+              → list_fault signer_of (exactly accepts Commit (get_or list 0 none-record).statement.epoch s (Prove.proved_digest list)) k.core.house.n (quorum k.core.house.n) list ≡ None
           right true h = absurd (some_is_none 0 h)
           right false h = h
 
@@ -493,7 +496,7 @@ module _ {X : Type 0} (value : List ℕ → DigestValue) (next : X → ℕ → �
             old e s' d' (inl h) = absurd (omega (arith, ap (λ (a : Statement). a.kind) h))
             old e s' d' (inr h) = full.origin e s' d' h
 
-    commit_full : c.view.changing ≡ false → st.epoch ≡ c.view.epoch → st.kind ≡ 4 → st.held ≡ 0 → in_window c.table st.number ≡ true → proposes (place_at c.table st.number).proposal st.digest ≡ true
+    commit_full : c.view.changing ≡ false → st.epoch ≡ c.view.epoch → st.kind ≡ Commit → st.held ≡ 0 → in_window c.table st.number ≡ true → proposes (place_at c.table st.number).proposal st.digest ≡ true
         → Heard honest Issued st → goal (Vote.commit_table c v) []
     commit_full steady epoch kind held inside is heard =
         let s = st.number in
@@ -539,13 +542,13 @@ module _ {X : Type 0} (value : List ℕ → DigestValue) (next : X → ℕ → �
         go (Some r) e = subst F (sym (refused k outbox r (Vote.vote_effect next marked k.core k.app v))) full
         go None e =
             let ps = passed (Vote.vote_checks accepts c outbox v) e in
-            let k1 = or_parts (not (Vote.of_epoch st.kind || eqb st.kind 5)) _ ps.1.0 in
+            let k1 = or_parts (not (Vote.of_epoch st.kind || same_kind st.kind Checkpoint)) _ ps.1.0 in
             let k2 = or_parts (not (eqb st.held 0)) _ k1.1 in
             let held : st.held ≡ 0 = eqb-true st.held 0 (not-false (eqb st.held 0) k2.0) in
             let inside = not-false (in_window c.table st.number) (or_parts (not (in_window c.table st.number)) _ ps.1.1.1.1.0).0 in
             let vouched = (vouch (ok_called c k.app outbox _ _ e)).0 (not-false (accepts st v.seal) ps.1.1.1.1.1.1.1.0) in
             go_on (with_table c (Vote.vote_table c v)) k (Vote.vote_issued c v)
-            (three (eqb st.kind 3) refl (eqb st.kind 4) refl held inside vouched ps.1.1.1.0 ps.1.1.1.1.1.0)
+            (three (same_kind st.kind Prepare) refl (same_kind st.kind Commit) refl held inside vouched ps.1.1.1.0 ps.1.1.1.1.1.0)
           where
             -- the facts of a vote of the epoch
             now : (b : Bool) → b ≡ true → (b && (c.view.changing || not (eqb st.epoch c.view.epoch))) ≡ false → (c.view.changing ≡ false) × (st.epoch ≡ c.view.epoch)
@@ -556,16 +559,16 @@ module _ {X : Type 0} (value : List ℕ → DigestValue) (next : X → ℕ → �
             named : (b : Bool) → b ≡ true → (b && not (proposes (place_at c.table st.number).proposal st.digest)) ≡ false → proposes (place_at c.table st.number).proposal st.digest ≡ true
             named b t f = not-false _ (sym (ap (λ z. z && not (proposes (place_at c.table st.number).proposal st.digest)) t) ∙ f)
 
-            three : (a : Bool) → eqb st.kind 3 ≡ a → (b : Bool) → eqb st.kind 4 ≡ b → st.held ≡ 0 → in_window c.table st.number ≡ true → Vouch honest honest_client Issued AskedFor st
+            three : (a : Bool) → same_kind st.kind Prepare ≡ a → (b : Bool) → same_kind st.kind Commit ≡ b → st.held ≡ 0 → in_window c.table st.number ≡ true → Vouch honest honest_client Issued AskedFor st
                 → (Vote.of_epoch st.kind && (c.view.changing || not (eqb st.epoch c.view.epoch))) ≡ false
                 → (Vote.of_epoch st.kind && not (proposes (place_at c.table st.number).proposal st.digest)) ≡ false
                 → goal (cond a (Vote.prepare_table c v) (cond b (Vote.commit_table c v) (Vote.checkpoint_table c v))) (cond a (Vote.prepare_issued c v) [])
             three true is b is4 held inside vouched ep prop =
-                let of : Vote.of_epoch st.kind ≡ true = ap (λ z. z || eqb st.kind 4) is in
+                let of : Vote.of_epoch st.kind ≡ true = ap (λ z. z || same_kind st.kind Commit) is in
                 prepare_full (now (Vote.of_epoch st.kind) of ep).0 inside (named (Vote.of_epoch st.kind) of prop)
             three false is true is4 held inside vouched ep prop =
                 let of : Vote.of_epoch st.kind ≡ true = (λ i. is i || is4 i) in
-                let kind : st.kind ≡ 4 = eqb-true st.kind 4 is4 in
+                let kind : st.kind ≡ Commit = same_kind_is st.kind Commit is4 in
                 let g = now (Vote.of_epoch st.kind) of ep in
                 commit_full g.0 g.1 kind held inside (named (Vote.of_epoch st.kind) of prop) (λ hon. vouched.vote (omega (arith, kind)) (omega (arith, kind)) hon)
             three false is false is4 held inside vouched ep prop = checkpoint_full inside

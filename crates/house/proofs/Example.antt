@@ -17,6 +17,8 @@ use Rattle.protocol.specs.Delivery.{deliver_one, deliver_ready}
 use Rattle.protocol.specs.Enter.{choices}
 use Rattle.house.specs.Runs
 use Rattle.house.specs.Example
+use Rattle.wire.specs.declared.kinds.Kind.TheVariants.{Request}
+use Rattle.wire.specs.Kinds.{same_kind}
 
 abbrev node : ℕ → List Runs.Event → Runs.Node ℕ
 node = Runs.node Example.value Example.next Example.marked 0 Example.houses
@@ -38,7 +40,7 @@ was_asked (Runs.at k outbox c ∷ older) st = was_asked older st
 was_asked (Runs.asks client timestamp payload ∷ older) st = same_statement (Runs.asked client timestamp payload) st || was_asked older st
 
 abbrev good_request : List Runs.Event → Statement → Bool
-good_request older st = not (eqb st.kind 1) || was_asked older st
+good_request older st = not (same_kind st.kind Request) || was_asked older st
 
 abbrev good_vote : List Runs.Event → Statement → Bool
 good_vote older st = not (leb 3 st.kind && (leb st.kind 7 && Example.honest st.signer)) || among (node st.signer older).issued st
@@ -83,7 +85,7 @@ asked_has (Runs.asks client timestamp payload ∷ older) st h =
 
 vouched : (older : List Runs.Event) (st : Statement) → good_request older st ≡ true → good_vote older st ≡ true → Vouched older st
 vouched older st r v = record {
-  request = λ kind _. asked_has older st (follows (eqb st.kind 1) _ r (eq-eqb st.kind 1 kind));
+  request = λ kind _. asked_has older st (follows (same_kind st.kind Request) _ r (eq-same_kind st.kind Request kind));
   vote = λ low high hon. among_has _ st (follows (leb 3 st.kind && (leb st.kind 7 && Example.honest st.signer)) _ v
       (and_from (leb 3 st.kind) _ (le-leb 3 st.kind low) (and_from (leb st.kind 7) _ (le-leb st.kind 7 high) hon)));
 }

@@ -28,6 +28,7 @@ use Rattle.house.proofs.Local.{same_inv}
 use Rattle.house.proofs.Backers.{backed_quorum}
 use Rattle.house.proofs.Full.{Full, BatchOk, DeliveredOk, Origin}
 use Rattle.house.proofs.Options.{none_is_some, some_is}
+use Rattle.wire.specs.declared.kinds.Kind.TheVariants.{Checkpoint}
 
 pub same_sketch : (S : Sketch) → Same S S
 same_sketch S = record { epoch = refl; changing = refl; first = refl; last = refl; stable = refl; filled = λ s. refl; cert = λ s. refl }
@@ -91,7 +92,7 @@ module _ {X : Type 0} (value : List ℕ → DigestValue) (next : X → ℕ → �
       (ap (λ (c : Course X). c.app) joins, ap (λ (c : Course X). c.windows) joins)
 
   pub push_full : (k : Node X) (rs : List Request) (issued : List Statement) → F k → D (k.core.delivered + 1) rs
-      → ((a : Statement) → Has k.issued a → Has issued a) → ((a : Statement) → Has issued a → Has k.issued a ⊎ (a.kind ≡ 5)) → F (pushed k rs issued)
+      → ((a : Statement) → Has k.issued a → Has issued a) → ((a : Statement) → Has issued a → Has k.issued a ⊎ (a.kind ≡ Checkpoint)) → F (pushed k rs issued)
   push_full k rs issued full ok more only =
       let long = length-append k.log (rs ∷ []) in
       let at : k.core.delivered + 1 ≡ length k.log + 1 = ap (λ m. m + 1) full.count in
@@ -154,16 +155,16 @@ module _ {X : Type 0} (value : List ℕ → DigestValue) (next : X → ℕ → �
       keep a (inl h) = has_left (f.issued ++ (more_of c f rs)) k.issued a (has_left f.issued (more_of c f rs) a h)
       keep a (inr h) = has_right (f.issued ++ (more_of c f rs)) k.issued a h
 
-      five : (b : Bool) (m a : Statement) → m.kind ≡ 5 → Has (cond b (m ∷ []) []) a → a.kind ≡ 5
+      five : (b : Bool) (m a : Statement) → m.kind ≡ Checkpoint → Has (cond b (m ∷ []) []) a → a.kind ≡ Checkpoint
       five true m a e (inl h) = sym (ap (λ (z : Statement). z.kind) h) ∙ e
       five true m a e (inr h) = absurd h
       five false m a e h = absurd h
 
-      fresh : (a : Statement) → Has f.issued a ⊎ Has (more_of c f rs) a → Has (f.issued ++ k.issued) a ⊎ (a.kind ≡ 5)
+      fresh : (a : Statement) → Has f.issued a ⊎ Has (more_of c f rs) a → Has (f.issued ++ k.issued) a ⊎ (a.kind ≡ Checkpoint)
       fresh a (inl h) = inl (has_left f.issued k.issued a h)
       fresh a (inr h) = inr (five (eqb ((f.delivered + 1) % 16) 0) _ a refl h)
 
-      new : (a : Statement) → Has (f.issued ++ (more_of c f rs)) a ⊎ Has k.issued a → Has (f.issued ++ k.issued) a ⊎ (a.kind ≡ 5)
+      new : (a : Statement) → Has (f.issued ++ (more_of c f rs)) a ⊎ Has k.issued a → Has (f.issued ++ k.issued) a ⊎ (a.kind ≡ Checkpoint)
       new a (inl h) = fresh a (has_append f.issued (more_of c f rs) a h)
       new a (inr h) = inl (has_right f.issued k.issued a h)
 

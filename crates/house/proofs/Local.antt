@@ -8,6 +8,7 @@ use Rattle.dossier.specs.Laws.{prepare_by, stable_by, held_by, digest_of}
 use Rattle.house.specs.Runs.{Has}
 use Rattle.house.proofs.Sketch.{Sketch, commit_by, is_filled, Seen, Old, Link, Crossed, Inv, Same, Fills, Certifies, Settles, GivesUp, Enters, Turns}
 use Rattle.house.proofs.Options.{some_is}
+use Rattle.wire.specs.declared.kinds.Kind.TheVariants.{Prepare, Checkpoint}
 
 -- what an option holds
 some_of : {A : Type 0} (o : Option A) → is_some o ≡ true → (a : A) × (o ≡ Some a)
@@ -72,7 +73,7 @@ module _ (n q self : ℕ) (honest : ℕ → Bool) (Issued : Statement → Type 0
 
   -- nothing that matters changes, and only checkpoints are added
   pub same_inv : (S R : Sketch) (before after : List Statement) → Same S R → ((a : Statement) → Has before a → Has after a)
-      → ((a : Statement) → Has after a → Has before a ⊎ (a.kind ≡ 5)) → Inv n q self honest Issued S before → Inv n q self honest Issued R after
+      → ((a : Statement) → Has after a → Has before a ⊎ (a.kind ≡ Checkpoint)) → Inv n q self honest Issued S before → Inv n q self honest Issued R after
   same_inv S R before after st more only inv =
       record {
         begun = omega (arith, st.epoch, inv.begun);
@@ -93,10 +94,10 @@ module _ (n q self : ℕ) (honest : ℕ → Bool) (Issued : Statement → Type 0
         crossed = λ e s d e' d' h k l. inv.crossed e s d e' d' (commit_was e s d h) (prepare_was e' s d' k) l;
       }
     where
-      was : (a : Statement) → (a.kind ≡ 5 → ⊥) → Has after a → Has before a
+      was : (a : Statement) → (a.kind ≡ Checkpoint → ⊥) → Has after a → Has before a
       was a other h = go (only a h)
         where
-          go : Has before a ⊎ (a.kind ≡ 5) → Has before a
+          go : Has before a ⊎ (a.kind ≡ Checkpoint) → Has before a
           go (inl w) = w
           go (inr w) = absurd (other w)
 
@@ -482,7 +483,7 @@ module _ (n q self : ℕ) (honest : ℕ → Bool) (Issued : Statement → Type 0
         crossed = λ e s d e' d' h k l. crossed e s d e' d' (commit_was e s d h) (st.only _ k) l;
       }
     where
-      was : (a : Statement) → (a.kind ≡ 3 → ⊥) → Has after a → Has before a
+      was : (a : Statement) → (a.kind ≡ Prepare → ⊥) → Has after a → Has before a
       was a other h = go (st.only a h)
         where
           go : Has before a ⊎ Filled self x.target R a → Has before a

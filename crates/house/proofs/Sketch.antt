@@ -6,6 +6,7 @@ use Rattle.dossier.specs.declared.parts.Opened.{Opened}
 use Rattle.dossier.specs.Walk.{top}
 use Rattle.dossier.specs.Laws.{prepare_by, stable_by, held_by, digest_of, Sound}
 use Rattle.house.specs.Runs.{Has}
+use Rattle.wire.specs.declared.kinds.Kind.TheVariants.{Commit}
 
 pub record Sketch : Type 0 where
   pub epoch : ℕ
@@ -18,7 +19,7 @@ pub record Sketch : Type 0 where
   pub cert : ℕ → ℕ
 
 abbrev pub commit_by : ℕ → ℕ → ℕ → DigestValue → Statement
-commit_by i epoch s d = record { kind = 4; signer = i; epoch = epoch; number = s; held = 0; digest = d }
+commit_by i epoch s d = record { kind = Commit; signer = i; epoch = epoch; number = s; held = 0; digest = d }
 
 abbrev pub is_filled : Sketch → ℕ → Type 0
 is_filled S s = is_some (S.filled s) ≡ true

@@ -15,6 +15,8 @@ use Rattle.quorum.specs.Sets.{count}
 use Rattle.dossier.specs.Laws.{stable_by, held_by}
 use Rattle.house.specs.Runs.{Event, at, asks, offer, vote, supply, prove, give_up, enter, node, SealsHold, DigestsDiffer}
 use Rattle.house.specs.Law.{log, upto}
+use Rattle.wire.specs.declared.kinds.Kind.TheVariants.{Proposal, Prepare, Commit, New}
+use Rattle.wire.specs.declared.kinds.Kind.{Kind}
 
 -- the sum of the bytes as digest; an application that adds up payloads, from 0
 abbrev pub sum_of : List ℕ → ℕ
@@ -64,38 +66,38 @@ order = record { client = 2; timestamp = 1; payload = 7; seal = 9 }
 abbrev pub batch : List Request
 batch = order ∷ []
 
-abbrev pub said_in : ℕ → ℕ → ℕ → Statement
+abbrev pub said_in : ℕ → Kind → ℕ → Statement
 said_in epoch kind signer = record { kind = kind; signer = signer; epoch = epoch; number = 1; held = 0; digest = batch_digest value batch }
 
-abbrev pub said : ℕ → ℕ → Statement
+abbrev pub said : Kind → ℕ → Statement
 said kind signer = said_in 1 kind signer
 
 abbrev pub room : List Sealed
 room = replicate 400 none
 
 abbrev pub offered_at : ℕ → Event
-offered_at k = at k room (offer accepts (sealed (said 2 0)) batch)
+offered_at k = at k room (offer accepts (sealed (said Proposal 0)) batch)
 
--- a prepare (kind 3) or a commit (kind 4) of a signer comes to k
-abbrev pub voted_in : ℕ → ℕ → ℕ → ℕ → Event
+-- a prepare or a commit of a signer comes to k
+abbrev pub voted_in : ℕ → ℕ → Kind → ℕ → Event
 voted_in epoch k kind signer = at k room (vote accepts (sealed (said_in epoch kind signer)))
 
-abbrev pub voted_at : ℕ → ℕ → ℕ → Event
+abbrev pub voted_at : ℕ → Kind → ℕ → Event
 voted_at k kind signer = voted_in 1 k kind signer
 
 -- the newest first: the client asks; 0 and 1 take the proposal, prepare, and commit after the prepares of 0, 1 and the liar; 1 delivers
 -- after their commits
 abbrev pub ordered : List Event
 ordered =
-    voted_at 1 4 3
-    ∷ voted_at 1 4 1
-    ∷ voted_at 1 4 0
-    ∷ voted_at 1 3 3
-    ∷ voted_at 1 3 1
-    ∷ voted_at 1 3 0
-    ∷ voted_at 0 3 3
-    ∷ voted_at 0 3 1
-    ∷ voted_at 0 3 0
+    voted_at 1 Commit 3
+    ∷ voted_at 1 Commit 1
+    ∷ voted_at 1 Commit 0
+    ∷ voted_at 1 Prepare 3
+    ∷ voted_at 1 Prepare 1
+    ∷ voted_at 1 Prepare 0
+    ∷ voted_at 0 Prepare 3
+    ∷ voted_at 0 Prepare 1
+    ∷ voted_at 0 Prepare 0
     ∷ offered_at 1
     ∷ offered_at 0
     ∷ asks 2 1 7
@@ -103,7 +105,7 @@ ordered =
 
 -- then 2, which saw none of it, is given the batch with the commits
 abbrev pub run : List Event
-run = at 2 room (prove accepts 1 batch (sealed (said 4 0) ∷ sealed (said 4 1) ∷ sealed (said 4 3) ∷ [])) ∷ ordered
+run = at 2 room (prove accepts 1 batch (sealed (said Commit 0) ∷ sealed (said Commit 1) ∷ sealed (said Commit 3) ∷ [])) ∷ ordered
 
 -- or 0 and 1 give up epoch 1, and a dossier says what they and the liar hold: of the numbers from s on none holds anything
 abbrev pub nothing_held : ℕ → ℕ → List Sealed
@@ -120,28 +122,28 @@ dossier =
     ∷ sealed (held_by 0 2 1 1 (batch_digest value batch))
     ∷ sealed (held_by 1 2 1 1 (batch_digest value batch))
     ∷ sealed (held_by 3 2 1 0 (value_of 0))
-    ∷ sealed (said 3 0)
-    ∷ sealed (said 3 1)
-    ∷ sealed (said 3 3)
+    ∷ sealed (said Prepare 0)
+    ∷ sealed (said Prepare 1)
+    ∷ sealed (said Prepare 3)
     ∷ nothing_held 31 2
 
 -- 2, the primary of epoch 2, leads it alone
 abbrev pub begun : Statement
-begun = record { kind = 8; signer = 2; epoch = 2; number = 0; held = 0; digest = value_of 4 }
+begun = record { kind = New; signer = 2; epoch = 2; number = 0; held = 0; digest = value_of 4 }
 
 -- 0 and 2 enter, prepare and commit anew, and 2 delivers in epoch 2 what 1 delivered in epoch 1
 abbrev pub changing_run : List Event
 changing_run =
     at 2 room (supply 1 batch)
-    ∷ voted_in 2 2 4 3
-    ∷ voted_in 2 2 4 2
-    ∷ voted_in 2 2 4 0
-    ∷ voted_in 2 2 3 3
-    ∷ voted_in 2 2 3 2
-    ∷ voted_in 2 2 3 0
-    ∷ voted_in 2 0 3 3
-    ∷ voted_in 2 0 3 2
-    ∷ voted_in 2 0 3 0
+    ∷ voted_in 2 2 Commit 3
+    ∷ voted_in 2 2 Commit 2
+    ∷ voted_in 2 2 Commit 0
+    ∷ voted_in 2 2 Prepare 3
+    ∷ voted_in 2 2 Prepare 2
+    ∷ voted_in 2 2 Prepare 0
+    ∷ voted_in 2 0 Prepare 3
+    ∷ voted_in 2 0 Prepare 2
+    ∷ voted_in 2 0 Prepare 0
     ∷ at 2 room (enter accepts (sealed begun) dossier)
     ∷ at 0 room (enter accepts (sealed begun) dossier)
     ∷ at 1 room give_up

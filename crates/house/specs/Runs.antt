@@ -20,6 +20,8 @@ use Rattle.protocol.specs.Supply.{supplied}
 use Rattle.protocol.specs.Prove.{proved}
 use Rattle.protocol.specs.Change.{gave_up, took_turn}
 use Rattle.protocol.specs.Enter.{entered}
+use Rattle.wire.specs.declared.kinds.Kind.TheVariants.{Request as RequestKind}
+use Rattle.wire.specs.Kinds.{of_controllers}
 
 -- a seal checker, by its test
 abbrev pub Checker : Type 0
@@ -42,7 +44,7 @@ pub data Event : Type 0 where
 
 -- what a client says by asking: client, timestamp, payload
 abbrev pub asked : ℕ → ℕ → ℕ → Statement
-asked client timestamp payload = record { kind = 1; signer = client; epoch = 0; number = timestamp; held = 0; digest = value_of payload }
+asked client timestamp payload = record { kind = RequestKind; signer = client; epoch = 0; number = timestamp; held = 0; digest = value_of payload }
 
 abbrev pub Has : {A : Type 0} → List A → A → Type 0
 Has [] x = ⊥
@@ -148,8 +150,8 @@ module _ {X : Type 0} (value : List ℕ → DigestValue) (next : X → ℕ → �
     -- a statement that the checker accepted stands for something: a request was asked for, and a prepare, commit, checkpoint, stable or
     -- held statement was issued, where its signer is honest
     pub record Vouched (honest honest_client : ℕ → Bool) (older : List Event) (st : Statement) : Type 0 where
-      pub request : st.kind ≡ 1 → honest_client st.signer ≡ true → Asked older st
-      pub vote : 3 ≤ st.kind → st.kind ≤ 7 → honest st.signer ≡ true → Has (node st.signer older).issued st
+      pub request : st.kind ≡ RequestKind → honest_client st.signer ≡ true → Asked older st
+      pub vote : of_controllers st.kind ≡ true → honest st.signer ≡ true → Has (node st.signer older).issued st
 
     -- premise one: in each call that an honest controller accepts, what its checker accepts of an honest party was issued earlier
     abbrev pub SealsHold : (ℕ → Bool) → (ℕ → Bool) → List Event → Type 0

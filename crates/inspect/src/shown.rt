@@ -7,7 +7,7 @@ use digest::truncated::Sha256;
 use wire::faults::FrameFault;
 use wire::records::{Batch, Request, Sealed, Statement};
 
-fn kind_name(kind: u8) -> &'static str {
+fn kind_name(kind: Kind) -> &'static str {
     match kind {
         1 => "request",
         2 => "proposal",

@@ -18,6 +18,7 @@ use Rattle.protocol.specs.Refusals.{first_of}
 use Rattle.protocol.specs.Leaders.{primary, everyone}
 use Rattle.protocol.specs.State.{size, own, with_view}
 use Rattle.protocol.specs.Call.{Effect, Step, called, cramped, quiet}
+use Rattle.wire.specs.declared.kinds.Kind.TheVariants.{Prepare, Checkpoint, Stable, Held}
 
 -- there is no epoch after this one
 abbrev pub last_epoch : ℕ → Bool
@@ -26,10 +27,10 @@ last_epoch epoch = epoch == 4294967295
 -- GIVE UP
 
 abbrev pub stable_of : ℕ → ℕ → ℕ → Statement
-stable_of signer target number = record { kind = 6; signer = signer; epoch = target; number = number; held = 0; digest = value_of 0 }
+stable_of signer target number = record { kind = Stable; signer = signer; epoch = target; number = number; held = 0; digest = value_of 0 }
 
 abbrev pub held_of : ℕ → ℕ → ℕ → ℕ → DigestValue → Statement
-held_of signer target number epoch digest = record { kind = 7; signer = signer; epoch = target; number = number; held = epoch; digest = digest }
+held_of signer target number epoch digest = record { kind = Held; signer = signer; epoch = target; number = number; held = epoch; digest = digest }
 
 -- what is held of a number: its certificate's epoch and digest, or 0 and 0
 abbrev pub held_for : ℕ → ℕ → ℕ → Option Certificate → Statement
@@ -43,10 +44,10 @@ helds_from signer target s (p ∷ ps) = held_for signer target s p.certificate �
 
 -- a vote as the statement that it was
 abbrev pub as_checkpoint : ℕ → Vote → Sealed
-as_checkpoint number v = record { statement = record { kind = 5; signer = v.signer; epoch = 0; number = number; held = 0; digest = v.digest }; seal = v.seal }
+as_checkpoint number v = record { statement = record { kind = Checkpoint; signer = v.signer; epoch = 0; number = number; held = 0; digest = v.digest }; seal = v.seal }
 
 abbrev pub as_prepare : ℕ → ℕ → Vote → Sealed
-as_prepare epoch number v = record { statement = record { kind = 3; signer = v.signer; epoch = epoch; number = number; held = 0; digest = v.digest }; seal = v.seal }
+as_prepare epoch number v = record { statement = record { kind = Prepare; signer = v.signer; epoch = epoch; number = number; held = 0; digest = v.digest }; seal = v.seal }
 
 abbrev pub prepares_for : ℕ → Option Certificate → List Sealed
 prepares_for number None = []

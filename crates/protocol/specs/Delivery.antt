@@ -14,6 +14,7 @@ use Rattle.window.specs.declared.windows.Windows.{Windows}
 use Rattle.window.specs.Deliveries.{delivered}
 use Rattle.protocol.specs.declared.records.Core.{Core}
 use Rattle.protocol.specs.State.{size, own, enough}
+use Rattle.wire.specs.declared.kinds.Kind.TheVariants.{Checkpoint}
 
 -- the batch of a place that is committed: a quorum of commits for what it is filled with
 abbrev pub known : Option Batch → Option (List Request)
@@ -30,7 +31,7 @@ ready n q t d = cond (in_window t (d + 1)) (committed_batch n q (place_at t (d +
 
 -- what a controller says of a number that it has delivered
 abbrev pub checkpoint_of : ℕ → ℕ → ℕ → Statement
-checkpoint_of signer number mark = record { kind = 5; signer = signer; epoch = 0; number = number; held = 0; digest = value_of mark }
+checkpoint_of signer number mark = record { kind = Checkpoint; signer = signer; epoch = 0; number = number; held = 0; digest = value_of mark }
 
 -- how far a delivery has come: what was issued, which batches were delivered, and how many requests
 pub record Flow (X : Type 0) : Type 0 where

@@ -20,6 +20,8 @@ use Rattle.protocol.specs.Leaders.{member, within, primary}
 use Rattle.protocol.specs.State.{size, own, enough, with_view}
 use Rattle.protocol.specs.Offer.{prepare_of}
 use Rattle.protocol.specs.Call.{Effect, Step, called, cramped, quiet}
+use Rattle.wire.specs.declared.kinds.Kind.TheVariants.{New}
+use Rattle.wire.specs.Kinds.{same_kind}
 
 -- a changing controller takes its own epoch and higher ones, another only higher ones
 abbrev pub stale : View → ℕ → Bool
@@ -42,7 +44,7 @@ module _ (accepts : Statement → ℕ → Bool) where
   enter_checks c outbox new =
       let st = new.statement in
       (cramped outbox, Room)
-      ∷ (not (st.kind == 8) || not (st.held == 0), Kind)
+      ∷ (not (same_kind st.kind New) || not (st.held == 0), Kind)
       ∷ (nat_le (size c) st.signer, Signer)
       ∷ (stale c.view st.epoch, Epoch)
       ∷ (no_set_of (size c) st, Authority)
@@ -99,7 +101,7 @@ new_refusal accepts c outbox new =
     let st = new.statement in
     first_of (
     (cramped outbox, Room)
-    ∷ (not (st.kind == 8) || not (st.held == 0), Kind)
+    ∷ (not (same_kind st.kind New) || not (st.held == 0), Kind)
     ∷ (nat_le (size c) st.signer, Signer)
     ∷ (stale c.view st.epoch, Epoch)
     ∷ (no_set_of (size c) st, Authority)

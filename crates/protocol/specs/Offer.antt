@@ -18,6 +18,8 @@ use Rattle.protocol.specs.Refusals.{first_of, or_else, at_request}
 use Rattle.protocol.specs.Leaders.{owns, in_bucket}
 use Rattle.protocol.specs.State.{size, own, with_table, limit}
 use Rattle.protocol.specs.Call.{Effect, Step, called, cramped, quiet}
+use Rattle.wire.specs.declared.kinds.Kind.TheVariants.{Proposal, Prepare}
+use Rattle.wire.specs.Kinds.{same_kind}
 
 -- above the epoch's last number, if it has one
 abbrev pub above_last : Option ℕ → ℕ → Bool
@@ -72,7 +74,7 @@ module _ (accepts : Statement → ℕ → Bool) (value : List ℕ → DigestValu
   offer_checks c outbox p rs =
       let st = p.statement in
       (cramped outbox, Room)
-      ∷ (not (st.kind == 2) || not (st.held == 0), Kind)
+      ∷ (not (same_kind st.kind Proposal) || not (st.held == 0), Kind)
       ∷ (nat_le (size c) st.signer, Signer)
       ∷ (c.view.changing || not (st.epoch == c.view.epoch), Epoch)
       ∷ (not_offered c st.number, Number)
@@ -87,7 +89,7 @@ module _ (accepts : Statement → ℕ → Bool) (value : List ℕ → DigestValu
 
 -- what a controller says when it accepts a proposal
 abbrev pub prepare_of : ℕ → ℕ → ℕ → DigestValue → Statement
-prepare_of signer epoch number digest = record { kind = 3; signer = signer; epoch = epoch; number = number; held = 0; digest = digest }
+prepare_of signer epoch number digest = record { kind = Prepare; signer = signer; epoch = epoch; number = number; held = 0; digest = digest }
 
 abbrev pub offer_effect : {X : Type 0} → Core → X → Sealed → List Request → Effect X
 offer_effect c x p rs =

@@ -15,24 +15,26 @@ use Rattle.protocol.specs.Refusals.{first_of}
 use Rattle.protocol.specs.State.{size, own, enough, with_table, limit}
 use Rattle.protocol.specs.Delivery.{begin}
 use Rattle.protocol.specs.Call.{Effect, Step, called, cramped, delivering}
+use Rattle.wire.specs.declared.kinds.Kind.TheVariants.{Prepare, Commit, Checkpoint}
+use Rattle.wire.specs.Kinds.{same_kind}
 
 -- prepares and commits are of an epoch, checkpoints are not
 abbrev pub of_epoch : ℕ → Bool
-of_epoch kind = kind == 3 || kind == 4
+of_epoch kind = same_kind kind Prepare || same_kind kind Commit
 
 abbrev pub no_vote_kind : Statement → Bool
-no_vote_kind st = not (of_epoch st.kind || st.kind == 5) || (not (st.held == 0) || (st.kind == 5 && not (st.epoch == 0)))
+no_vote_kind st = not (of_epoch st.kind || same_kind st.kind Checkpoint) || (not (st.held == 0) || (same_kind st.kind Checkpoint && not (st.epoch == 0)))
 
 -- the number has no place, or it is a checkpoint's and above the limit or no multiple of 16
 abbrev pub not_voted : Core → Statement → Bool
 not_voted c st =
-    not (in_window c.table st.number) || (st.kind == 5 && (nat_lt limit st.number || not (st.number % 16 == 0)))
+    not (in_window c.table st.number) || (same_kind st.kind Checkpoint && (nat_lt limit st.number || not (st.number % 16 == 0)))
 
 -- this signer's vote of this kind stands
 abbrev pub vote_stands : Table → Statement → Bool
 vote_stands t st =
-    cond (st.kind == 3) (has_ballot (place_at t st.number).prepares st.signer)
-    (cond (st.kind == 4) (has_ballot (place_at t st.number).commits st.signer) (has_ballot (row_at t st.number) st.signer))
+    cond (same_kind st.kind Prepare) (has_ballot (place_at t st.number).prepares st.signer)
+    (cond (same_kind st.kind Commit) (has_ballot (place_at t st.number).commits st.signer) (has_ballot (row_at t st.number) st.signer))
 
 abbrev pub vote_checks : (Statement → ℕ → Bool) → Core → List Sealed → Sealed → List (Bool × Refusal)
 vote_checks accepts c outbox v =
@@ -55,7 +57,7 @@ ballot_of v = record { digest = v.statement.digest; seal = v.seal }
 
 -- what a controller says when a quorum has prepared
 abbrev pub commit_of : ℕ → ℕ → ℕ → DigestValue → Statement
-commit_of signer epoch number digest = record { kind = 4; signer = signer; epoch = epoch; number = number; held = 0; digest = digest }
+commit_of signer epoch number digest = record { kind = Commit; signer = signer; epoch = epoch; number = number; held = 0; digest = digest }
 
 -- the q-th prepare makes the certificate, and a commit is issued
 abbrev pub with_prepare : Core → Sealed → Table
@@ -88,10 +90,10 @@ checkpoint_table c v =
 
 abbrev pub vote_table : Core → Sealed → Table
 vote_table c v =
-    cond (v.statement.kind == 3) (prepare_table c v) (cond (v.statement.kind == 4) (commit_table c v) (checkpoint_table c v))
+    cond (same_kind v.statement.kind Prepare) (prepare_table c v) (cond (same_kind v.statement.kind Commit) (commit_table c v) (checkpoint_table c v))
 
 abbrev pub vote_issued : Core → Sealed → List Statement
-vote_issued c v = cond (v.statement.kind == 3) (prepare_issued c v) []
+vote_issued c v = cond (same_kind v.statement.kind Prepare) (prepare_issued c v) []
 
 module _ {X : Type 0} (next : X → ℕ → ℕ → ℕ → X) (marked : X → ℕ) where
   abbrev pub vote_effect : Core → X → Sealed → Effect X

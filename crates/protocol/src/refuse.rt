@@ -19,7 +19,7 @@ use dossier::parts::{Opened, Terms};
 use dossier::target::Target;
 use group::check::commits_fault;
 use seal::checker::SealChecker;
-use wire::kinds::{CHECKPOINT, COMMIT, NEW, PREPARE, PROPOSAL};
+use wire::kinds::Kind;
 use wire::records::{DigestValue, Request, Sealed, Statement};
 
 // How many places an outbox has at least.
@@ -61,19 +61,19 @@ impl View {
     }
 }
 
-fn is_of_epoch(kind: u8) -> bool
+fn is_of_epoch(kind: Kind) -> bool
     ensures { result ≡ of_epoch kind }
 {
-    kind == PREPARE || kind == COMMIT
+    kind == Kind::Prepare || kind == Kind::Commit
 }
 
 fn is_no_vote_kind(st: &Statement) -> bool
     ensures { result ≡ no_vote_kind st.now }
 {
-    if !is_of_epoch(st.kind) && st.kind != CHECKPOINT {
+    if !is_of_epoch(st.kind) && st.kind != Kind::Checkpoint {
         return true;
     }
-    st.held != 0 || (st.kind == CHECKPOINT && st.epoch != 0)
+    st.held != 0 || (st.kind == Kind::Checkpoint && st.epoch != 0)
 }
 
 // The digest that a list of commits is for.
@@ -81,7 +81,7 @@ fn first_digest(commits: &[Sealed]) -> DigestValue
     ensures { result ≡ proved_digest commits.now }
 {
     if commits.len() == 0 {
-        return DigestValue::from_number(0);
+        return DigestValue::from(0);
     }
     commits[0].statement.digest
 }
@@ -135,7 +135,7 @@ impl Core {
         if outbox.len() < ROOM {
             return Some(Refusal::Room);
         }
-        if st.kind != PROPOSAL || st.held != 0 {
+        if st.kind != Kind::Proposal || st.held != 0 {
             return Some(Refusal::Kind);
         }
         if st.signer >= self.house.n() {
@@ -190,10 +190,10 @@ impl Core {
         requires { in_window self.now.table st.now.number ≡ true }
         ensures { result ≡ vote_stands self.now.table st.now }
     {
-        if st.kind == PREPARE {
+        if st.kind == Kind::Prepare {
             return self.has_prepare(st.number, st.signer);
         }
-        if st.kind == COMMIT {
+        if st.kind == Kind::Commit {
             return self.has_commit(st.number, st.signer);
         }
         self.table.row(st.number).has(st.signer)
@@ -217,7 +217,7 @@ impl Core {
         if st.number <= self.table.stable || st.number - self.table.stable > 32 {
             return true;
         }
-        st.kind == CHECKPOINT && (st.number > LIMIT || st.number % 16 != 0)
+        st.kind == Kind::Checkpoint && (st.number > LIMIT || st.number % 16 != 0)
     }
 
     pub fn refuses_vote<C: SealChecker>(
@@ -323,7 +323,7 @@ impl Core {
         if outbox.len() < ROOM {
             return Some(Refusal::Room);
         }
-        if st.kind != NEW || st.held != 0 {
+        if st.kind != Kind::New || st.held != 0 {
             return Some(Refusal::Kind);
         }
         if st.signer >= self.house.n() {

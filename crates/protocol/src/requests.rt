@@ -15,7 +15,7 @@ pub(crate) fn is_no_batch<D: Digest>(digest: &D, wanted: &DigestValue, requests:
 {
     match batch_digest(digest, requests) {
         Ok(d) => {
-            !d.equals(wanted) || (requests.len() > 0 && d.equals(&DigestValue::from_number(0)))
+            !d.equals(wanted) || (requests.len() > 0 && d == DigestValue::from(0))
         }
         Err(_) => true,
     }

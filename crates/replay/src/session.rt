@@ -20,7 +20,7 @@ const ENOUGH_PLACES: usize = 400;
 
 const BLANK: Sealed = Sealed {
     statement: Statement {
-        kind: 0,
+        kind: Kind::Unknown(0),
         signer: 0,
         epoch: 0,
         number: 0,

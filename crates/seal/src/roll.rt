@@ -6,6 +6,7 @@ use crate::checker::SealChecker;
 use std::alloc::{AllocError, Global};
 use wire::records::{Sealed, Statement};
 
+#[tactic(auto, unfolding(wire::specs::Values::same_digest))]
 fn is_entry(entry: &Sealed, st: &Statement, seal: u64) -> bool
     ensures { result ≡ matches entry.now st.now seal }
 {

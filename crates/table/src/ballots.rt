@@ -62,12 +62,13 @@ fn set_slot(slots: &mut [Option<Ballot>], i: usize, ballot: Ballot)
     }
 }
 
+#[tactic(auto, unfolding(wire::specs::Values::same_digest))]
 fn vote_for(signer: u8, ballot: &Option<Ballot>, digest: &DigestValue) -> Option<Vote>
     ensures { result ≡ vote_for digest.now signer ballot.now }
 {
     match *ballot {
         Some(x) => {
-            if x.digest.equals(digest) {
+            if x.digest == *digest {
                 return Some(Vote {
                     signer,
                     digest: x.digest,

@@ -8,11 +8,12 @@ use wire::records::{Batch, DigestValue};
 
 impl Place {
     // Whether it is filled with a digest.
+    #[tactic(auto, unfolding(wire::specs::Values::same_digest))]
     pub fn proposes(&self, digest: &DigestValue) -> bool
         ensures { result ≡ proposes self.now.proposal digest.now }
     {
         match self.proposal {
-            Some(d) => d.equals(digest),
+            Some(d) => d == *digest,
             None => false,
         }
     }
@@ -53,10 +54,11 @@ impl Place {
         });
     }
 
+    #[tactic(auto, unfolding(wire::specs::Values::same_digest))]
     fn kept_batch(&self, digest: &DigestValue) -> Option<Batch>
         ensures { result ≡ kept_batch digest.now self.now }
     {
-        if digest.equals(&DigestValue::from_number(0)) {
+        if *digest == DigestValue::from(0) {
             return Some(Batch::new());
         }
         if self.proposes(digest) {

@@ -59,3 +59,15 @@ name_of Stable = codes "stable"
 name_of Held = codes "held"
 name_of New = codes "new"
 name_of (Unknown b) = codes "unknown"
+
+-- what controllers issue from the state that they keep: prepares, commits, checkpoints, stable and held statements
+abbrev pub of_controllers : Kind → Bool
+of_controllers Request = false
+of_controllers Proposal = false
+of_controllers Prepare = true
+of_controllers Commit = true
+of_controllers Checkpoint = true
+of_controllers Stable = true
+of_controllers Held = true
+of_controllers New = false
+of_controllers (Unknown b) = false

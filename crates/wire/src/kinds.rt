@@ -6,6 +6,8 @@ use std::fmt;
 
 #[derive(Clone, Copy, PartialEq, Eq, Debug)]
 pub enum Kind {
+    // None of the others, so that a record of it can be expressed and refused: it has no frame.
+    Unknown(u8),
     // A client asks for an order: number = timestamp, digest = payload.
     Request,
     // A leader proposes a batch for a number.
@@ -22,8 +24,6 @@ pub enum Kind {
     Held,
     // A primary begins an epoch: digest = the leader set, bit i for controller i.
     New,
-    // None of these, so that a record of it can be expressed and refused: it has no frame.
-    Unknown(u8),
 }
 
 // The kind byte of a batch's frame; no statement has it.
