@@ -67,7 +67,14 @@ fn spoken(kind: Kind, epoch: u32, number: u64, vote: &Vote) -> Sealed
     }
 }
 
-fn write_votes(kind: Kind, epoch: u32, number: u64, votes: &[Vote], at: usize, outbox: &mut [Sealed])
+fn write_votes(
+    kind: Kind,
+    epoch: u32,
+    number: u64,
+    votes: &[Vote],
+    at: usize,
+    outbox: &mut [Sealed],
+)
     requires { at + length votes.now ≤ length outbox.old }
     ensures { outbox.new ≡ written_at at (map (spoken kind epoch number) votes.now) outbox.old }
 {

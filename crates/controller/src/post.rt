@@ -3,6 +3,7 @@ ghost use Rattle.std.specs.Prelude.{◌≡◌, ◌<◌, length};
 ghost use Rattle.protocol.specs.Call.{unsealed};
 ghost use Rattle.controller.specs.Agree.{said};
 
+use wire::kinds::Kind;
 use wire::records::{DigestValue, Sealed, Statement};
 
 // A statement that holds no epoch; the host seals it.

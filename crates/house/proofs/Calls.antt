@@ -46,14 +46,16 @@ use Rattle.house.proofs.Checks.{passed, both, no_request_at, no_record_at, ok_ca
 use Rattle.house.proofs.Full.{Heard, BatchOk, PlaceOk, DeliveredOk, OfferedOk, Origin, Full, grown, refused}
 use Rattle.house.proofs.Flow.{flow_node, one_full, ready_full}
 use Rattle.house.proofs.Options.{none_is_some, some_is_none, some_is}
-use Rattle.wire.specs.declared.kinds.Kind.TheVariants.{Request, Prepare, Commit, Checkpoint}
+use Rattle.wire.specs.declared.kinds.Kind.TheVariants.{Request as RequestKind, Prepare, Commit, Checkpoint}
 use Rattle.wire.specs.Kinds.{same_kind}
 use Rattle.wire.proofs.KindBytes.{same_kind_is}
+use Rattle.wire.specs.Kinds.{of_controllers}
+use Rattle.wire.proofs.KindBytes.{kinds_apart}
 
 -- what an accepted seal stands for
 pub record Vouch (honest honest_client : ℕ → Bool) (Issued AskedFor : Statement → Type 0) (st : Statement) : Type 0 where
-  pub request : st.kind ≡ Request → honest_client st.signer ≡ true → AskedFor st
-  pub vote : 3 ≤ st.kind → st.kind ≤ 7 → honest st.signer ≡ true → Issued st
+  pub request : st.kind ≡ RequestKind → honest_client st.signer ≡ true → AskedFor st
+  pub vote : of_controllers st.kind ≡ true → honest st.signer ≡ true → Issued st
 
 none_of : {A : Type 0} (o : Option A) → is_some o ≡ false → o ≡ None
 none_of None e = refl
@@ -120,9 +122,9 @@ module _ (honest honest_client : ℕ → Bool) (Issued AskedFor : Statement → 
       let nu = and_parts (eqb st.number s) _ ep.1 in
       let he = and_parts (eqb st.held 0) _ nu.1 in
       let di = and_parts (same_digest st.digest d) _ he.1 in
-      let kind : st.kind ≡ Commit = eqb-true _ _ k.0 in
+      let kind : st.kind ≡ Commit = same_kind_is st.kind Commit k.0 in
       let is : st ≡ commit_by st.signer e s d = λ i. record { kind = kind i; signer = st.signer; epoch = eqb-true st.epoch e ep.0 i; number = eqb-true st.number s nu.0 i; held = eqb-true st.held 0 he.0 i; digest = same_digest_is st.digest d di.0 i } in
-      (λ hon. subst Issued is ((v.0 di.1).vote (omega arith) (omega arith) hon), heard_all accepts e s d rs a.1 v.1)
+      (λ hon. subst Issued is ((v.0 di.1).vote (ap of_controllers kind) hon), heard_all accepts e s d rs a.1 v.1)
 
 module _ {X : Type 0} (value : List ℕ → DigestValue) (next : X → ℕ → ℕ → ℕ → X) (marked : X → ℕ) (start : X) (n self : ℕ) (honest honest_client : ℕ → Bool)
     (Issued : Statement → Type 0) (Handed : List Request → Type 0) (AskedFor : Statement → Type 0) where
@@ -493,7 +495,7 @@ module _ {X : Type 0} (value : List ℕ → DigestValue) (next : X → ℕ → �
             subst (λ i. F (record { core = with_table c t2; app = k.app; issued = commit_by i c.view.epoch s d ∷ k.issued; log = k.log })) (sym full.own) node
           where
             old : (e s' : ℕ) (d' : DigestValue) → Has (commit_by self c.view.epoch st.number st.digest ∷ k.issued) (prepare_by self e s' d') → Origin value n (quorum n) honest honest_client Issued Handed AskedFor e s' d'
-            old e s' d' (inl h) = absurd (omega (arith, ap (λ (a : Statement). a.kind) h))
+            old e s' d' (inl h) = absurd (kinds_apart (ap (λ (a : Statement). a.kind) h) refl)
             old e s' d' (inr h) = full.origin e s' d' h
 
     commit_full : c.view.changing ≡ false → st.epoch ≡ c.view.epoch → st.kind ≡ Commit → st.held ≡ 0 → in_window c.table st.number ≡ true → proposes (place_at c.table st.number).proposal st.digest ≡ true
@@ -570,5 +572,5 @@ module _ {X : Type 0} (value : List ℕ → DigestValue) (next : X → ℕ → �
                 let of : Vote.of_epoch st.kind ≡ true = (λ i. is i || is4 i) in
                 let kind : st.kind ≡ Commit = same_kind_is st.kind Commit is4 in
                 let g = now (Vote.of_epoch st.kind) of ep in
-                commit_full g.0 g.1 kind held inside (named (Vote.of_epoch st.kind) of prop) (λ hon. vouched.vote (omega (arith, kind)) (omega (arith, kind)) hon)
+                commit_full g.0 g.1 kind held inside (named (Vote.of_epoch st.kind) of prop) (λ hon. vouched.vote (ap of_controllers kind) hon)
             three false is false is4 held inside vouched ep prop = checkpoint_full inside

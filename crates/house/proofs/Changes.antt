@@ -44,6 +44,7 @@ use Rattle.house.proofs.Local.{turns_inv, gives_up_inv, enters_inv}
 use Rattle.house.proofs.Full.{BatchOk, PlaceOk, Origin, Full, grown, refused}
 use Rattle.house.proofs.Checks.{passed, both, ok_called}
 use Rattle.house.proofs.Options.{some_is}
+use Rattle.wire.proofs.KindBytes.{kinds_apart}
 
 nothing : {A : Type 0} (x : A) → ◌≡◌ {A = Option A} None (Some x) → ⊥
 nothing x e = let z : ◌≡◌ {A = ℕ} 0 1 = cc in omega arith
@@ -232,8 +233,8 @@ module _ {X : Type 0} (value : List ℕ → DigestValue) (next : X → ℕ → �
 
           was : (e s : ℕ) (d : DigestValue) → Has k.issued (prepare_by self e s d) ⊎ Told self k.core (prepare_by self e s d) → Has k.issued (prepare_by self e s d)
           was e s d (inl h) = h
-          was e s d (inr (inl h)) = absurd (omega (arith, ap (λ (a : Statement). a.kind) h))
-          was e s d (inr (inr h)) = absurd (omega (arith, ap (λ (a : Statement). a.kind) h.4))
+          was e s d (inr (inl h)) = absurd (kinds_apart (ap (λ (a : Statement). a.kind) h) refl)
+          was e s d (inr (inr h)) = absurd (kinds_apart (ap (λ (a : Statement). a.kind) h.4) refl)
 
   -- ENTER
 

@@ -1,5 +1,5 @@
 -- The premises hold of a run that delivers.
-use Rattle.std.proofs.Common.{◌≡◌, ℕ, zero, suc, Bool, true, false, not, ◌&&◌, ◌||◌, eqb, leb, ◌⊎◌, List, [], ◌∷◌, sym, refl, ◌∙◌, inl, inr, arith, lit≤}
+use Rattle.std.proofs.Common.{◌≡◌, ℕ, zero, suc, Bool, true, false, not, ◌&&◌, ◌||◌, eqb, leb, ◌⊎◌, List, [], ◌∷◌, sym, refl, ◌∙◌, inl, inr, arith, lit≤, ap}
 use Rattle.std.specs.List.{AllByRecursion}
 use Rattle.std.proofs.lemmas.Bool.{leb-true, and_parts, and_from, eq-eqb, le-leb, false≢true}
 use Rattle.wire.specs.declared.records.Statement.{Statement}
@@ -17,8 +17,10 @@ use Rattle.protocol.specs.Delivery.{deliver_one, deliver_ready}
 use Rattle.protocol.specs.Enter.{choices}
 use Rattle.house.specs.Runs
 use Rattle.house.specs.Example
-use Rattle.wire.specs.declared.kinds.Kind.TheVariants.{Request}
+use Rattle.wire.specs.declared.kinds.Kind.TheVariants.{Request as RequestKind}
 use Rattle.wire.specs.Kinds.{same_kind}
+use Rattle.wire.specs.declared.kinds.Kind.{Kind}
+use Rattle.wire.specs.Kinds.{of_controllers}
 
 abbrev node : ℕ → List Runs.Event → Runs.Node ℕ
 node = Runs.node Example.value Example.next Example.marked 0 Example.houses
@@ -40,10 +42,10 @@ was_asked (Runs.at k outbox c ∷ older) st = was_asked older st
 was_asked (Runs.asks client timestamp payload ∷ older) st = same_statement (Runs.asked client timestamp payload) st || was_asked older st
 
 abbrev good_request : List Runs.Event → Statement → Bool
-good_request older st = not (same_kind st.kind Request) || was_asked older st
+good_request older st = not (same_kind st.kind RequestKind) || was_asked older st
 
 abbrev good_vote : List Runs.Event → Statement → Bool
-good_vote older st = not (leb 3 st.kind && (leb st.kind 7 && Example.honest st.signer)) || among (node st.signer older).issued st
+good_vote older st = not (of_controllers st.kind && Example.honest st.signer) || among (node st.signer older).issued st
 
 abbrev all_good : List Runs.Event → List Sealed → Bool
 all_good older [] = true
@@ -85,9 +87,8 @@ asked_has (Runs.asks client timestamp payload ∷ older) st h =
 
 vouched : (older : List Runs.Event) (st : Statement) → good_request older st ≡ true → good_vote older st ≡ true → Vouched older st
 vouched older st r v = record {
-  request = λ kind _. asked_has older st (follows (same_kind st.kind Request) _ r (eq-same_kind st.kind Request kind));
-  vote = λ low high hon. among_has _ st (follows (leb 3 st.kind && (leb st.kind 7 && Example.honest st.signer)) _ v
-      (and_from (leb 3 st.kind) _ (le-leb 3 st.kind low) (and_from (leb st.kind 7) _ (le-leb st.kind 7 high) hon)));
+  request = λ kind _. asked_has older st (follows (same_kind st.kind RequestKind) _ r (ap (λ (k : Kind). same_kind k RequestKind) kind));
+  vote = λ of hon. among_has _ st (follows (of_controllers st.kind && Example.honest st.signer) _ v (and_from (of_controllers st.kind) _ of hon));
 }
 
 all_vouched : (older : List Runs.Event) (c : Runs.Call) (rs : List Sealed) → all_good older rs ≡ true

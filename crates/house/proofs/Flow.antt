@@ -28,7 +28,8 @@ use Rattle.house.proofs.Local.{same_inv}
 use Rattle.house.proofs.Backers.{backed_quorum}
 use Rattle.house.proofs.Full.{Full, BatchOk, DeliveredOk, Origin}
 use Rattle.house.proofs.Options.{none_is_some, some_is}
-use Rattle.wire.specs.declared.kinds.Kind.TheVariants.{Checkpoint}
+use Rattle.wire.specs.declared.kinds.Kind.TheVariants.{Prepare, Checkpoint}
+use Rattle.wire.proofs.KindBytes.{kinds_apart}
 
 pub same_sketch : (S : Sketch) → Same S S
 same_sketch S = record { epoch = refl; changing = refl; first = refl; last = refl; stable = refl; filled = λ s. refl; cert = λ s. refl }
@@ -120,9 +121,9 @@ module _ {X : Type 0} (value : List ℕ → DigestValue) (next : X → ℕ → �
           let before : j < length k.log = omega (arith, length-append k.log (rs ∷ []), e) in
           subst (D (j + 1)) (sym (get_or_append_left k.log (rs ∷ []) [] j before)) (full.log j before)
 
-      old : (e s : ℕ) (d : DigestValue) → Has k.issued (prepare_by self e s d) ⊎ (◌≡◌ {A = ℕ} 3 5) → Origin value n (quorum n) honest honest_client Issued Handed AskedFor e s d
+      old : (e s : ℕ) (d : DigestValue) → Has k.issued (prepare_by self e s d) ⊎ (Prepare ≡ Checkpoint) → Origin value n (quorum n) honest honest_client Issued Handed AskedFor e s d
       old e s d (inl h) = full.origin e s d h
-      old e s d (inr h) = absurd (omega (arith, h))
+      old e s d (inr h) = absurd (kinds_apart h refl)
 
   -- the node of a flow that began at a node
   abbrev pub flow_node : Core → Node X → Flow X → Node X

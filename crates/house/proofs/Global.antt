@@ -9,17 +9,14 @@ use Rattle.dossier.specs.Walk.{top}
 use Rattle.dossier.specs.Laws.{prepare_by, stable_by, held_by, highest_of, digest_of, Said}
 use Rattle.house.specs.Runs.{Has}
 use Rattle.house.proofs.Sketch.{Sketch, Seen, Inv, commit_by}
-
--- the kinds of statements that controllers issue: prepare, commit, checkpoint, stable, held
-abbrev pub is_vote : ℕ → Bool
-is_vote kind = leb 3 kind && leb kind 7
+use Rattle.wire.specs.Kinds.{of_controllers}
 
 -- all honest controllers, and that what was issued under the name of one of them it issued
 pub record Locals (n q : ℕ) (honest : ℕ → Bool) (Issued : Statement → Type 0) : Type 0 where
   pub sketch : ℕ → Sketch
   pub issued : ℕ → List Statement
   pub inv : (k : ℕ) → honest k ≡ true → Inv n q k honest Issued (sketch k) (issued k)
-  pub own : (a : Statement) → honest a.signer ≡ true → is_vote a.kind ≡ true → Issued a → Has (issued a.signer) a
+  pub own : (a : Statement) → honest a.signer ≡ true → of_controllers a.kind ≡ true → Issued a → Has (issued a.signer) a
 
 module _ (n f q : ℕ) (honest : ℕ → Bool) (trusty : Trusty n f q honest) (Issued : Statement → Type 0) (L : Locals n q honest Issued) where
   -- a quorum of commits

@@ -8,7 +8,8 @@ use Rattle.dossier.specs.Laws.{prepare_by, stable_by, held_by, digest_of}
 use Rattle.house.specs.Runs.{Has}
 use Rattle.house.proofs.Sketch.{Sketch, commit_by, is_filled, Seen, Old, Link, Crossed, Inv, Same, Fills, Certifies, Settles, GivesUp, Enters, Turns}
 use Rattle.house.proofs.Options.{some_is}
-use Rattle.wire.specs.declared.kinds.Kind.TheVariants.{Prepare, Checkpoint}
+use Rattle.wire.specs.declared.kinds.Kind.TheVariants.{Prepare, Checkpoint, Stable, Held}
+use Rattle.wire.proofs.KindBytes.{kinds_apart}
 
 -- what an option holds
 some_of : {A : Type 0} (o : Option A) → is_some o ≡ true → (a : A) × (o ≡ Some a)
@@ -85,9 +86,9 @@ module _ (n q self : ℕ) (honest : ℕ → Bool) (Issued : Statement → Type 0
         filled_prepared = λ s d c f. more _ (subst (λ (y : ℕ). Has before (prepare_by self y s d)) (sym st.epoch) (inv.filled_prepared s d (sym st.changing ∙ c) (sym (st.filled s) ∙ f)));
         one_prepare = λ e s d d' h k. inv.one_prepare e s d d' (prepare_was e s d h) (prepare_was e s d' k);
         commit_cert = λ e s d h. cert e s (inv.commit_cert e s d (commit_was e s d h));
-        stable_old = λ t m h. omega (arith, st.epoch, inv.stable_old t m (was _ (λ z. omega (arith, z)) h));
-        held_old = λ t s he d h. omega (arith, st.epoch, inv.held_old t s he d (was _ (λ z. omega (arith, z)) h));
-        kept = λ e s d t m h k l. right (λ w. (w.0, λ he d' u. w.1 he d' (was _ (λ z. omega (arith, z)) u))) (inv.kept e s d t m (commit_was e s d h) (was _ (λ z. omega (arith, z)) k) l);
+        stable_old = λ t m h. omega (arith, st.epoch, inv.stable_old t m (was _ (λ z. kinds_apart z refl) h));
+        held_old = λ t s he d h. omega (arith, st.epoch, inv.held_old t s he d (was _ (λ z. kinds_apart z refl) h));
+        kept = λ e s d t m h k l. right (λ w. (w.0, λ he d' u. w.1 he d' (was _ (λ z. kinds_apart z refl) u))) (inv.kept e s d t m (commit_was e s d h) (was _ (λ z. kinds_apart z refl) k) l);
         first_last = λ l h. omega (arith, st.first, inv.first_last l (sym st.last ∙ h));
         filled_last = λ l s h f. inv.filled_last l s (sym st.last ∙ h) (back s f);
         gap = λ c e s d h l. gap e s (inv.gap (sym st.changing ∙ c) e s d (commit_was e s d h) (omega (arith, st.epoch)));
@@ -102,10 +103,10 @@ module _ (n q self : ℕ) (honest : ℕ → Bool) (Issued : Statement → Type 0
           go (inr w) = absurd (other w)
 
       prepare_was : (e s : ℕ) (d : DigestValue) → Has after (prepare_by self e s d) → Has before (prepare_by self e s d)
-      prepare_was e s d h = was _ (λ z. omega (arith, z)) h
+      prepare_was e s d h = was _ (λ z. kinds_apart z refl) h
 
       commit_was : (e s : ℕ) (d : DigestValue) → Has after (commit_by self e s d) → Has before (commit_by self e s d)
-      commit_was e s d h = was _ (λ z. omega (arith, z)) h
+      commit_was e s d h = was _ (λ z. kinds_apart z refl) h
 
       back : (s : ℕ) → is_filled R s → is_filled S s
       back s h = subst (λ (z : Option DigestValue). is_some z ≡ true) (st.filled s) h
@@ -150,15 +151,15 @@ module _ (n q self : ℕ) (honest : ℕ → Bool) (Issued : Statement → Type 0
       }
     where
       commit_was : (e x : ℕ) (d' : DigestValue) → Has (prepare_by self S.epoch s d ∷ issued) (commit_by self e x d') → Has issued (commit_by self e x d')
-      commit_was e x d' (inl h) = absurd (omega (arith, kind_of h))
+      commit_was e x d' (inl h) = absurd (kinds_apart (kind_of h) refl)
       commit_was e x d' (inr h) = h
 
       stable_was : (t m : ℕ) → Has (prepare_by self S.epoch s d ∷ issued) (stable_by self t m) → Has issued (stable_by self t m)
-      stable_was t m (inl h) = absurd (omega (arith, kind_of h))
+      stable_was t m (inl h) = absurd (kinds_apart (kind_of h) refl)
       stable_was t m (inr h) = h
 
       held_was : (t x he : ℕ) (d' : DigestValue) → Has (prepare_by self S.epoch s d ∷ issued) (held_by self t x he d') → Has issued (held_by self t x he d')
-      held_was t x he d' (inl h) = absurd (omega (arith, kind_of h))
+      held_was t x he d' (inl h) = absurd (kinds_apart (kind_of h) refl)
       held_was t x he d' (inr h) = h
 
       back : (x : ℕ) → (x ≡ s → ⊥) → is_filled R x → is_filled S x
@@ -264,15 +265,15 @@ module _ (n q self : ℕ) (honest : ℕ → Bool) (Issued : Statement → Type 0
       }
     where
       prepare_was : (e x : ℕ) (d' : DigestValue) → Has (commit_by self S.epoch s d ∷ issued) (prepare_by self e x d') → Has issued (prepare_by self e x d')
-      prepare_was e x d' (inl h) = absurd (omega (arith, kind_of h))
+      prepare_was e x d' (inl h) = absurd (kinds_apart (kind_of h) refl)
       prepare_was e x d' (inr h) = h
 
       stable_was : (t m : ℕ) → Has (commit_by self S.epoch s d ∷ issued) (stable_by self t m) → Has issued (stable_by self t m)
-      stable_was t m (inl h) = absurd (omega (arith, kind_of h))
+      stable_was t m (inl h) = absurd (kinds_apart (kind_of h) refl)
       stable_was t m (inr h) = h
 
       held_was : (t x he : ℕ) (d' : DigestValue) → Has (commit_by self S.epoch s d ∷ issued) (held_by self t x he d') → Has issued (held_by self t x he d')
-      held_was t x he d' (inl h) = absurd (omega (arith, kind_of h))
+      held_was t x he d' (inl h) = absurd (kinds_apart (kind_of h) refl)
       held_was t x he d' (inr h) = h
 
       back : (x : ℕ) → is_filled R x → is_filled S x
@@ -397,32 +398,32 @@ module _ (n q self : ℕ) (honest : ℕ → Bool) (Issued : Statement → Type 0
         crossed = λ e s d e' d' h k l. inv.crossed e s d e' d' (commit_was e s d h) (prepare_was e' s d' k) l;
       }
     where
-      was : (a : Statement) → a.kind < 6 → Has after a → Has before a
-      was a low h = go (st.only a h)
+      was : (a : Statement) → (a.kind ≡ Stable → ⊥) → (a.kind ≡ Held → ⊥) → Has after a → Has before a
+      was a stable held h = go (st.only a h)
         where
           go : Has before a ⊎ Told self S a → Has before a
           go (inl w) = w
-          go (inr (inl w)) = absurd (omega (arith, low, kind_of w))
-          go (inr (inr w)) = absurd (omega (arith, low, kind_of w.4))
+          go (inr (inl w)) = absurd (stable (kind_of w))
+          go (inr (inr w)) = absurd (held (kind_of w.4))
 
       prepare_was : (e s : ℕ) (d : DigestValue) → Has after (prepare_by self e s d) → Has before (prepare_by self e s d)
-      prepare_was e s d h = was _ (omega arith) h
+      prepare_was e s d h = was _ (λ z. kinds_apart z refl) (λ z. kinds_apart z refl) h
 
       commit_was : (e s : ℕ) (d : DigestValue) → Has after (commit_by self e s d) → Has before (commit_by self e s d)
-      commit_was e s d h = was _ (omega arith) h
+      commit_was e s d h = was _ (λ z. kinds_apart z refl) (λ z. kinds_apart z refl) h
 
       stable_view : (t m : ℕ)
           → Has before (stable_by self t m) ⊎ Told self S (stable_by self t m)
           → Has before (stable_by self t m) ⊎ ((t ≡ S.epoch + 1) × (m ≡ S.stable))
       stable_view t m (inl w) = inl w
       stable_view t m (inr (inl w)) = inr (epoch_of w, number_of w)
-      stable_view t m (inr (inr w)) = absurd (omega (arith, kind_of w.4))
+      stable_view t m (inr (inr w)) = absurd (kinds_apart (kind_of w.4) refl)
 
       held_view : (t s he : ℕ) (d : DigestValue)
           → Has before (held_by self t s he d) ⊎ Told self S (held_by self t s he d)
           → Has before (held_by self t s he d) ⊎ ((t ≡ S.epoch + 1) × (he ≡ S.cert s))
       held_view t s he d (inl w) = inl w
-      held_view t s he d (inr (inl w)) = absurd (omega (arith, kind_of w))
+      held_view t s he d (inr (inl w)) = absurd (kinds_apart (kind_of w) refl)
       held_view t s he d (inr (inr w)) = inr (epoch_of w.4, held_of w.4 ∙ ap (λ (z : ℕ). S.cert z) (sym (number_of w.4)))
 
       back : (s : ℕ) → is_filled R s → is_filled S s
@@ -474,9 +475,9 @@ module _ (n q self : ℕ) (honest : ℕ → Bool) (Issued : Statement → Type 0
         filled_prepared = λ s d c f. subst (λ (y : ℕ). Has after (prepare_by self y s d)) (sym st.epoch) (st.each s d f);
         one_prepare = λ e s d d' h k. one_prepare e s d d' (st.only _ h) (st.only _ k);
         commit_cert = λ e s d h. cert e s (cases_lt R.stable s) (inv.commit_cert e s d (commit_was e s d h));
-        stable_old = λ t m h. omega (arith, st.epoch, st.fresh.0, inv.stable_old t m (was _ (λ z. omega (arith, z)) h));
-        held_old = λ t s he d h. omega (arith, st.epoch, st.fresh.0, inv.held_old t s he d (was _ (λ z. omega (arith, z)) h));
-        kept = λ e s d t m h k l. right (λ w. (w.0, λ he d' u. w.1 he d' (was _ (λ z. omega (arith, z)) u))) (inv.kept e s d t m (commit_was e s d h) (was _ (λ z. omega (arith, z)) k) l);
+        stable_old = λ t m h. omega (arith, st.epoch, st.fresh.0, inv.stable_old t m (was _ (λ z. kinds_apart z refl) h));
+        held_old = λ t s he d h. omega (arith, st.epoch, st.fresh.0, inv.held_old t s he d (was _ (λ z. kinds_apart z refl) h));
+        kept = λ e s d t m h k l. right (λ w. (w.0, λ he d' u. w.1 he d' (was _ (λ z. kinds_apart z refl) u))) (inv.kept e s d t m (commit_was e s d h) (was _ (λ z. kinds_apart z refl) k) l);
         first_last = λ l h. omega (arith, st.first, ends l h);
         filled_last = λ l s h f. omega (arith, ends l h, upto s f, x.sound.top_near);
         gap = λ _ e s d h l. gap e s d (commit_was e s d h) (cases_lt x.o.base s) (cases_lt R.stable s);
@@ -491,7 +492,7 @@ module _ (n q self : ℕ) (honest : ℕ → Bool) (Issued : Statement → Type 0
           go (inr w) = absurd (other (kind_of w.3))
 
       commit_was : (e s : ℕ) (d : DigestValue) → Has after (commit_by self e s d) → Has before (commit_by self e s d)
-      commit_was e s d h = was _ (λ z. omega (arith, z)) h
+      commit_was e s d h = was _ (λ z. kinds_apart z refl) h
 
       older : (e : ℕ) → Old S e → e < x.target
       older e o = go S.changing refl

@@ -19,9 +19,10 @@ use Rattle.window.proofs.Serving.{served_once, served_stands, fresh_full}
 use Rattle.house.specs.Runs
 use Rattle.house.specs.Law.{OneLog, OneLogHolds}
 use Rattle.house.proofs.Tables.{sketch_of}
-use Rattle.house.proofs.Global.{is_vote, Locals, one_digest, offered}
+use Rattle.house.proofs.Global.{Locals, one_digest, offered}
 use Rattle.house.proofs.Full.{DeliveredOk, OfferedOk, Full}
 use Rattle.house.proofs.Whole.{AskedBefore, handed_more, issued_more, local_full, counted}
+use Rattle.wire.specs.Kinds.{of_controllers}
 
 -- a request of a delivered list stands in one of its batches
 in_some : (r : Request) (bs : List (List Request)) → Stands r (flat_map (λ b. b) bs) → (j : ℕ) × (j < length bs) × Stands r (get_or bs j [])
@@ -84,7 +85,7 @@ module _ {X : Type 0} (value : List ℕ → DigestValue) (next : X → ℕ → �
   -- one run, in which AskedFor holds of what was asked for before its last event
   module _ (run : List Runs.Event) (seals : Seals run) (AskedFor : Statement → Type 0) (ask : (st : Statement) → AskedBefore run st → AskedFor st) where
     abbrev Issued : Statement → Type 0
-    Issued a = is_vote a.kind ≡ true → Runs.Has (node a.signer run).issued a
+    Issued a = of_controllers a.kind ≡ true → Runs.Has (node a.signer run).issued a
 
     abbrev F : ℕ → Runs.Node X → Type 0
     F k = Full value next start n (quorum n) k honest honest_client Issued (Runs.Handed honest run) AskedFor
@@ -138,7 +139,7 @@ module _ {X : Type 0} (value : List ℕ → DigestValue) (next : X → ℕ → �
     Nothing st = Unit {0}
 
     abbrev Said : Statement → Type 0
-    Said a = is_vote a.kind ≡ true → Runs.Has (node a.signer run).issued a
+    Said a = of_controllers a.kind ≡ true → Runs.Has (node a.signer run).issued a
 
     full_then : (k : ℕ) (m : List Runs.Event) → Runs.Moment m run → honest k ≡ true → Full value next start n (quorum n) k honest honest_client Said (Runs.Handed honest run) Nothing (node k m)
     full_then k m at hon =

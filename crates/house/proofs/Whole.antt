@@ -25,12 +25,13 @@ use Rattle.protocol.specs.Enter as Enter
 use Rattle.house.specs.Runs
 use Rattle.house.proofs.Tables
 use Rattle.house.proofs.Local.{start_inv}
-use Rattle.house.proofs.Global.{is_vote}
+use Rattle.house.proofs.Global.{}
 use Rattle.house.proofs.Full.{Full}
 use Rattle.house.proofs.Calls
 use Rattle.house.proofs.Calls.{none_of_none}
 use Rattle.house.proofs.Changes
 use Rattle.house.proofs.Options.{none_is_some}
+use Rattle.wire.specs.Kinds.{of_controllers}
 
 -- what was asked for before the last event
 abbrev pub AskedBefore : List Runs.Event → Statement → Type 0
@@ -121,7 +122,7 @@ module _ {X : Type 0} (value : List ℕ → DigestValue) (next : X → ℕ → �
     -- each call keeps it, given what its accepted seals stand for and that its batches were handed in
     after_full : (k : ℕ) (outbox : List Sealed) (c : Runs.Call) (w : Runs.Node X) → F k w → AllByRecursion Handed (Runs.batches_in c)
         → (is_ok (Runs.stepped value next marked w.core w.app outbox c).result ≡ true → AllByRecursion (λ r. Runs.accepts_in c r ≡ true → Calls.Vouch honest honest_client Issued AskedFor r.statement) (Runs.handed c))
-        → ((a : Statement) → is_vote a.kind ≡ false → Issued a) → F k (Runs.after value next marked w outbox c)
+        → ((a : Statement) → of_controllers a.kind ≡ false → Issued a) → F k (Runs.after value next marked w outbox c)
     unfolding Runs.after
     after_full k outbox (Runs.offer accepts p rs) w full got vouch others = Calls.offer_full value next marked start n k honest honest_client Issued Handed AskedFor accepts p rs outbox w full got.0 vouch
     after_full k outbox (Runs.vote accepts v) w full got vouch others = Calls.vote_full value next marked start n k honest honest_client Issued Handed AskedFor accepts v outbox w full vouch
@@ -130,17 +131,17 @@ module _ {X : Type 0} (value : List ℕ → DigestValue) (next : X → ℕ → �
     after_full k outbox Runs.give_up w full got vouch others = Changes.give_up_full value next marked start n (quorum n) k honest honest_client Issued Handed AskedFor outbox w full
     after_full k outbox (Runs.enter accepts new records) w full got vouch others =
         Changes.enter_full value next marked start n (quorum n) k honest honest_client Issued Handed AskedFor refl accepts new records outbox w full
-        (λ ok. All-weaker _ _ (λ r v yes hon. voted (is_vote r.statement.kind) refl (v yes) hon) records (vouch ok).1)
+        (λ ok. All-weaker _ _ (λ r v yes hon. voted (of_controllers r.statement.kind) refl (v yes) hon) records (vouch ok).1)
       where
-        voted : {st : Statement} (b : Bool) → is_vote st.kind ≡ b → Calls.Vouch honest honest_client Issued AskedFor st → honest st.signer ≡ true → Issued st
+        voted : {st : Statement} (b : Bool) → of_controllers st.kind ≡ b → Calls.Vouch honest honest_client Issued AskedFor st → honest st.signer ≡ true → Issued st
         voted {st} false e v hon = others st e
-        voted {st} true e v hon = let p = and_parts (leb 3 st.kind) (leb st.kind 7) e in v.vote (leb-true _ _ p.0) (leb-true _ _ p.1) hon
+        voted {st} true e v hon = v.vote e hon
     after_full k outbox Runs.turn w full got vouch others = Changes.turn_full value next marked start n (quorum n) k honest honest_client Issued Handed AskedFor outbox w full
 
   -- an honest controller after any part of the run, where Issued, Handed and AskedFor hold of all that the run has
   module _ (n : ℕ) (honest honest_client : ℕ → Bool) (members : (k : ℕ) → honest k ≡ true → ((houses k).n ≡ n) × ((houses k).own ≡ k))
       (Issued : Statement → Type 0) (Handed : List Request → Type 0) (AskedFor : Statement → Type 0)
-      (others : (a : Statement) → is_vote a.kind ≡ false → Issued a) where
+      (others : (a : Statement) → of_controllers a.kind ≡ false → Issued a) where
     all_in : {A : Type 0} (P : A → Type 0) (xs : List A) → ((x : A) → Runs.Has xs x → P x) → AllByRecursion P xs
     all_in P [] f = tt
     all_in P (x ∷ xs) f = (f x (inl refl), all_in P xs (λ y h. f y (inr h)))
@@ -168,4 +169,4 @@ module _ {X : Type 0} (value : List ℕ → DigestValue) (next : X → ℕ → �
             others
           where
             vouch : {st : Statement} → Runs.Vouched value next marked start houses honest honest_client older st → Calls.Vouch honest honest_client Issued AskedFor st
-            vouch {st} v = record { request = λ a b. ask st (v.request a b); vote = λ a b h. iss st (issued_more st.signer (Runs.at i outbox c) older st (v.vote a b h)) }
+            vouch {st} v = record { request = λ a b. ask st (v.request a b); vote = λ a h. iss st (issued_more st.signer (Runs.at i outbox c) older st (v.vote a h)) }

@@ -16,10 +16,11 @@ use Rattle.protocol.specs.State.{size, own, enough, with_table, limit}
 use Rattle.protocol.specs.Delivery.{begin}
 use Rattle.protocol.specs.Call.{Effect, Step, called, cramped, delivering}
 use Rattle.wire.specs.declared.kinds.Kind.TheVariants.{Prepare, Commit, Checkpoint}
+use Rattle.wire.specs.declared.kinds.Kind.{Kind as StatementKind}
 use Rattle.wire.specs.Kinds.{same_kind}
 
 -- prepares and commits are of an epoch, checkpoints are not
-abbrev pub of_epoch : ℕ → Bool
+abbrev pub of_epoch : StatementKind → Bool
 of_epoch kind = same_kind kind Prepare || same_kind kind Commit
 
 abbrev pub no_vote_kind : Statement → Bool

@@ -10,13 +10,12 @@ use table::records::Place;
 use wire::records::{Batch, DigestValue, Request};
 
 // Whether requests are not the batch of a digest, or no batch.
+#[tactic(auto, unfolding(wire::specs::Values::same_digest))]
 pub(crate) fn is_no_batch<D: Digest>(digest: &D, wanted: &DigestValue, requests: &[Request]) -> bool
     ensures { result ≡ no_batch_of (D.value digest.now) wanted.now requests.now }
 {
     match batch_digest(digest, requests) {
-        Ok(d) => {
-            !d.equals(wanted) || (requests.len() > 0 && d == DigestValue::from(0))
-        }
+        Ok(d) => { d != *wanted || (requests.len() > 0 && d == DigestValue::from(0)) }
         Err(_) => true,
     }
 }

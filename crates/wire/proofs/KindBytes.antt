@@ -1,6 +1,6 @@
 -- Kinds and their bytes: each byte is that of its kind, a known kind is that of its byte, and kinds that are called the same are equal.
 use Rattle.std.proofs.Common.{◌≡◌, ℕ, ◌+◌, ◌-◌, ◌<◌, Bool, true, false, cond, eqb, sym, refl, ap, ◌∙◌, subst, arith}
-use Rattle.std.proofs.lemmas.Bool.{eqb-true, eq-eqb, ne_eqb}
+use Rattle.std.proofs.lemmas.Bool.{eqb-true, eq-eqb, ne_eqb, false≢true}
 use Rattle.wire.specs.declared.kinds.Kind.{Kind}
 use Rattle.wire.specs.declared.kinds.Kind.TheVariants.{Request, Proposal, Prepare, Commit, Checkpoint, Stable, Held, New, Unknown}
 use Rattle.wire.specs.Kinds.{kind_of, byte_of, place_of, same_kind, unknown}
@@ -65,3 +65,7 @@ same_kinds a b = (same_kind_is a b, λ e. subst (λ (k : Kind). same_kind a k �
 
 pub kinds_back : KindsReadBack
 kinds_back = record { bytes = byte_back; kinds = kind_back }
+
+-- kinds that are not called the same are not equal
+pub kinds_apart : {a b : Kind} → a ≡ b → same_kind a b ≡ false → ⊥
+kinds_apart {a} {b} e h = false≢true (sym h ∙ (ap (λ (k : Kind). same_kind a k) (sym e) ∙ same_kind_self a))

@@ -19,7 +19,7 @@ pub returns : goal.returns
 returns c =
     let self = c.args.core.now in
     let one = due_one self.house.own self.delivered c.args.mark (omega arith) in
-    let is = c.said.ensures ∙ (λ i. unsealed (said Checkpoint (c.own.ensures i) 0 self.delivered (c.from_number.ensures i))) in
+    let is = c.said.ensures ∙ (λ i. unsealed (said Checkpoint (c.own.ensures i) 0 self.delivered (c.from.ensures i))) in
     record {
       value = sym (ap length one);
       few = omega arith;

@@ -10,6 +10,6 @@ returns c =
     let self = c.args.core.now in
     record {
       outbox = tell_made self c.args.target c.own-2.result c.args.outbox.now c.write_helds.new.outbox c.said.result c.requires.room
-          (c.said.ensures ∙ (λ i. unsealed (said Stable (c.own.ensures i) c.args.target self.table.stable (c.from_number.ensures i)))) c.own-2.ensures c.write_helds.ensures;
+          (c.said.ensures ∙ (λ i. unsealed (said Stable (c.own.ensures i) c.args.target self.table.stable (c.from.ensures i)))) c.own-2.ensures c.write_helds.ensures;
       long = search rules;
     }

@@ -6,4 +6,4 @@ use Rattle.protocol.proofs.refuse.first_digest.Goals as goal
 
 pub returns-then-commits-eq0 : goal.returns-then-commits-eq0
 returns-then-commits-eq0 c =
-    c.from_number.ensures ∙ sym (ap (λ (x : Sealed). x.statement.digest) (get_or_past c.args.commits.now 0 none (omega arith)))
+    c.from.ensures ∙ sym (ap (λ (x : Sealed). x.statement.digest) (get_or_past c.args.commits.now 0 none (omega arith)))
