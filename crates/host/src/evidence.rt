@@ -13,6 +13,7 @@ fn is_checkpoint(r: &Sealed, number: u64) -> bool
 }
 
 // Whether a record is a prepare of what a held statement claims for s.
+#[tactic(auto, unfolding(wire::specs::Values::same_digest))]
 fn is_prepare(r: &Sealed, s: u64, claim: &Statement) -> bool
     ensures { result ≡ is_prepare s claim.now r.now }
 {

@@ -43,7 +43,7 @@ fn absorb8(hash: u64, number: u64) -> u64
 fn absorb_statement(hash: u64, st: &Statement) -> u64
     ensures { result ≡ fnv_from hash (statement_bytes st.now) }
 {
-    let said = absorb(absorb(hash, st.kind), st.signer);
+    let said = absorb(absorb(hash, u8::from(st.kind)), st.signer);
     let placed = absorb8(absorb4(said, st.epoch), st.number);
     absorb8(absorb4(placed, st.held), st.digest.word)
 }

@@ -3,6 +3,7 @@
 ghost use Rattle.std.specs.Prelude.{◌≡◌, map, vec_items};
 ghost use Rattle.host.specs.Partings.{one_at, first_of, stable_in, held_in, claim_in, claimed_epoch, highest};
 
+use wire::kinds::Kind;
 use wire::records::{DigestValue, Sealed, Statement};
 
 // Stands for a record that is not there.
