@@ -1,6 +1,10 @@
 // A house: how many controllers it has, and which of them this one is.
-ghost use Rattle.std.specs.Prelude.{◌≡◌, ◌<◌, ◌≤◌, true, false, MatchResult};
+ghost use Rattle.std.specs.Prelude.{◌≡◌, ◌<◌, ◌≤◌, true, false, MatchResult, Some};
 ghost use Rattle.quorum.specs.Sizes.{allowed, faults, quorum, no_house, Sizes};
+ghost use Rattle.quorum.specs.Texts.{bad_house_text};
+
+use std::error::Error;
+use std::fmt;
 
 // That n is at most 16 follows from its being allowed; it stands here so that whoever holds a house
 // knows it.
@@ -14,19 +18,28 @@ pub struct House {
 }
 
 // There is no house of this size, or it has no controller of this number.
-#[derive(Clone, Copy)]
+#[derive(Clone, Copy, Debug, PartialEq, Eq)]
 pub struct BadHouse {
     pub n: u8,
     pub own: u8,
 }
 
+impl fmt::Display for BadHouse {
+    ghost output = { λ e. Some (bad_house_text e) };
+
+    fn fmt<W: fmt::Write>(&self, f: &mut fmt::Formatter<W>) -> fmt::Result {
+        let BadHouse { n, own } = self;
+        write!(f, "no house of {n} controllers has a number {own}")
+    }
+}
+
+impl Error for BadHouse {}
+
+#[tactic(auto, using(std::proofs::lemmas::Bool::Decides::nat_tests), unfolding(crate::specs::Sizes::allowed))]
 fn is_allowed(n: u8) -> bool
     ensures { result ≡ allowed n }
 {
-    match n {
-        4 | 7 | 10 | 13 | 16 => true,
-        _ => false,
-    }
+    matches!(n, 4 | 7 | 10 | 13 | 16)
 }
 
 impl House {
@@ -53,6 +66,7 @@ impl House {
     }
 
     // How many controllers may lie.
+    #[tactic(auto, using(crate::proofs::Allowed::sizes), unfolding(crate::specs::Sizes::faults))]
     pub fn faults(&self) -> usize
         ensures exact { result ≡ faults self.now.n }
         ensures sizes { Sizes self.now.n }
@@ -61,6 +75,7 @@ impl House {
     }
 
     // How many different controllers are a quorum.
+    #[tactic(auto, unfolding(crate::specs::Sizes::faults, crate::specs::Sizes::quorum))]
     pub fn quorum(&self) -> usize
         ensures exact { result ≡ quorum self.now.n }
         ensures sizes { Sizes self.now.n }

@@ -1,11 +1,12 @@
 -- The votes for a digest, signer by signer.
-use Rattle.std.proofs.Common.{◌≡◌, ℕ, suc, ◌+◌, ◌-◌, ◌<◌, ◌≤◌, min, Bool, true, false, not, List, [], ◌∷◌, ◌++◌, length, get_or, is_some, take, set, replicate, Some, None, Option, sym, refl, ap, ◌∙◌, append_assoc, append-nil, arith}
-use Rattle.std.proofs.lemmas.List.{take_more, take_at, set_at, length-append, length-take-le}
+use Rattle.std.proofs.Common.{◌≡◌, ℕ, suc, ◌+◌, ◌-◌, ◌<◌, ◌≤◌, List, [], ◌∷◌, ◌++◌, length, get_or, take, set, replicate, Some, None, Option, sym, refl, ap, ◌∙◌, append_assoc, append-nil, arith, subst, nat_lt}
+use Rattle.std.proofs.lemmas.Bool.{cond-true, lt-ltb}
+use Rattle.std.proofs.lemmas.List.{take_more, set_at, length-append, length-take-le}
 use Rattle.wire.specs.declared.records.DigestValue.{DigestValue}
 use Rattle.table.specs.declared.records.Ballot.{Ballot}
 use Rattle.table.specs.declared.records.Vote.{Vote}
 use Rattle.table.specs.declared.records.Votes.{Votes}
-use Rattle.table.specs.Ballots.{vote_for, before, backers_from, no_vote, listed, votes_of}
+use Rattle.table.specs.Ballots.{vote_for, before, backers_from, no_vote, listed, with_vote}
 
 before_append : (v : Option Vote) (xs ys : List Vote) → before v (xs ++ ys) ≡ before v xs ++ ys
 before_append None xs ys = refl
@@ -39,29 +40,20 @@ listed_push vs v w h e =
     same ∙ (ap (λ l. set (vs ++ l) (length vs) v) open_up ∙ (set_at vs no_vote none v (length vs) refl ∙ sym (append_assoc vs (v ∷ []) none))) in
     λ i. record { count = count i; list = list i }
 
-pub listed_back : (vs : List Vote) → length vs ≤ 16 → votes_of (listed vs) ≡ vs
-listed_back vs h = take_at vs (replicate (16 - length vs) no_vote) (min (length vs) 16) (omega arith)
-
-before_length : (v : Option Vote) → length (before v []) ≤ 1
-before_length None = omega arith
-before_length (Some v) = omega arith
-
-pub backers_few : (d : DigestValue) (s : ℕ) (xs : List (Option Ballot)) → length (backers_from d s xs) ≤ length xs
-backers_few d s [] = omega arith
-backers_few d s (x ∷ xs) = go (vote_for d s x) (backers_few d (s + 1) xs)
-  where
-    go : (v : Option Vote) → length (backers_from d (s + 1) xs) ≤ length xs → length (before v (backers_from d (s + 1) xs)) ≤ length (x ∷ xs)
-    go None h = omega arith
-    go (Some v) h = omega arith
+-- the same, by the clause on one vote more
+pub listed_with : (vs : List Vote) (v : Vote) (w : Votes) → length vs < 16 → w ≡ listed vs → with_vote w v ≡ listed (vs ++ v ∷ [])
+listed_with vs v w h e =
+    let few : w.count < 16 = subst (λ n. n < 16) (sym (ap (λ (x : Votes). x.count) e)) h in
+    cond-true (nat_lt w.count 16) _ w (lt-ltb w.count 16 few) ∙ listed_push vs v w h e
 
 -- the signer's vote is for the digest, and joins; or it does not
 module _ (d : DigestValue) (xs : List (Option Ballot)) (i : ℕ) (w : Votes) (lt : i < length xs) (few : i < 16)
     (is : w ≡ listed (backers_from d 0 (take i xs))) (short : length (backers_from d 0 (take i xs)) ≤ i) where
-  pub one_joined : (v : Vote) (after : Votes) → vote_for d i (get_or xs i None) ≡ Some v → after ≡ record { count = w.count + 1; list = set w.list w.count v }
+  pub one_joined : (v : Vote) (after : Votes) → vote_for d i (get_or xs i None) ≡ Some v → after ≡ with_vote w v
       → (after ≡ listed (backers_from d 0 (take (i + 1) xs))) × (length (backers_from d 0 (take (i + 1) xs)) ≤ i + 1)
   one_joined v after e was =
       let more = backers_more d xs i lt ∙ ap (λ o. backers_from d 0 (take i xs) ++ before o []) e in (
-        was ∙ (listed_push (backers_from d 0 (take i xs)) v w (omega arith) is ∙ ap listed (sym more)),
+        was ∙ (listed_with (backers_from d 0 (take i xs)) v w (omega arith) is ∙ ap listed (sym more)),
         omega (arith, ap length more, length-append (backers_from d 0 (take i xs)) (v ∷ [])),
       )
 
@@ -69,16 +61,3 @@ module _ (d : DigestValue) (xs : List (Option Ballot)) (i : ℕ) (w : Votes) (lt
   none_joined e =
       let more = backers_more d xs i lt ∙ (ap (λ o. backers_from d 0 (take i xs) ++ before o []) e ∙ append-nil (backers_from d 0 (take i xs))) in
       (is ∙ ap listed (sym more), omega (arith, ap length more))
-
--- a slice of the votes in their record is the votes
-pub slice_is : (vs ws : List Vote) (w : Votes) → length vs ≤ 16 → w ≡ listed vs → ws ≡ votes_of w → ws ≡ vs
-slice_is vs ws w few e is = is ∙ (ap votes_of e ∙ listed_back vs few)
-
-pub flip : (a r : Bool) → a ≡ not r → r ≡ not a
-flip true true e = e
-flip true false e = refl
-flip false true e = refl
-flip false false e = e
-
-pub none_told : {A : Type 0} (o p : Option A) (r : Bool) → o ≡ p → is_some o ≡ not r → r ≡ not (is_some p)
-none_told o p r e h = flip (is_some o) r h ∙ ap (λ z. not (is_some z)) e

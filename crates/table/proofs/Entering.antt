@@ -1,8 +1,9 @@
 -- Places that enter another epoch, one by one.
-use Rattle.std.proofs.Common.{◌≡◌, ℕ, suc, ◌+◌, ◌<◌, ◌≤◌, List, [], ◌∷◌, ◌++◌, length, get_or, take, drop, set, None, Option, sym, refl, ap, ◌∙◌, append_assoc, append-nil, arith}
-use Rattle.std.proofs.lemmas.List.{take_more, take_all, drop_more, drop_all, get_or_at, set_at, length-take-le}
+use Rattle.std.proofs.Common.{◌≡◌, ℕ, suc, ◌+◌, ◌<◌, List, [], ◌∷◌, ◌++◌, length, get_or, take, drop, set, None, Option, sym, refl, ap, ◌∙◌, append_assoc, arith}
+use Rattle.std.proofs.lemmas.List.{take_more, drop_more, get_or_at, set_at, length-take-le}
 use Rattle.wire.specs.declared.records.DigestValue.{DigestValue}
 use Rattle.table.specs.declared.records.Place.{Place}
+use Rattle.table.specs.declared.records.Table.{Table}
 use Rattle.table.specs.Places.{past, entered, all_entered}
 
 pub length-entered : (k : ℕ) (cs : List (Option DigestValue)) (ps : List Place) → length (all_entered k cs ps) ≡ length ps
@@ -35,5 +36,12 @@ module _ (cs : List (Option DigestValue)) (es ps : List Place) (i : ℕ) (lt : i
       ∙ (sym (append_assoc front (entered (get_or cs i None) (get_or es i past) ∷ []) (drop (i + 1) es))
       ∙ ap (λ l. l ++ drop (i + 1) es) (sym (ap (all_entered 0 cs) (take_more es i past lt) ∙ (entered_push 0 cs (take i es) (get_or es i past) ∙ ap (λ m. front ++ entered (get_or cs m None) (get_or es i past) ∷ []) at))))))
 
-pub all_done : (cs : List (Option DigestValue)) (es ps : List Place) (i : ℕ) → length es ≤ i → ps ≡ all_entered 0 cs (take i es) ++ drop i es → ps ≡ all_entered 0 cs es
-all_done cs es ps i h is = is ∙ ((λ j. all_entered 0 cs (take_all i es h j) ++ drop_all i es h j) ∙ append-nil (all_entered 0 cs es))
+-- the table in which i places have entered, and what one more makes of it
+abbrev pub partly : Table → List (Option DigestValue) → ℕ → Table
+partly t cs i = record { stable = t.stable; proof = t.proof; rows = t.rows; places = all_entered 0 cs (take i t.places) ++ drop i t.places }
+
+pub table_entered : (from t : Table) (cs : List (Option DigestValue)) (i : ℕ) (new : Place) → i < length from.places → t ≡ partly from cs i → new ≡ entered (get_or cs i None) (get_or t.places i past)
+    → record { stable = t.stable; proof = t.proof; rows = t.rows; places = set t.places i new } ≡ partly from cs (i + 1)
+table_entered from t cs i new lt is was =
+    let places = one_entered cs from.places t.places i lt (ap (λ (x : Table). x.places) is) (get_or cs i None) new refl was in
+    λ k. record { stable = (is k).stable; proof = (is k).proof; rows = (is k).rows; places = places k }

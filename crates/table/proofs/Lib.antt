@@ -1,3 +1,3 @@
 pub mod Backing
-pub mod Turned
 pub mod Entering
+pub mod Changing

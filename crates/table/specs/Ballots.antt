@@ -1,5 +1,5 @@
 -- The votes of controllers for a digest.
-use Rattle.std.specs.Prelude.{ℕ, ◌+◌, ◌-◌, min, Bool, true, cond, not, List, [], ◌∷◌, ◌++◌, length, take, replicate, is_some, Some, None, Option, slice_index_or, slice_set}
+use Rattle.std.specs.Prelude.{ℕ, ◌+◌, ◌-◌, min, Bool, true, cond, not, List, [], ◌∷◌, ◌++◌, length, take, replicate, is_some, Some, None, Option, nat_lt, slice_index_or, slice_set}
 use Rattle.wire.specs.declared.records.DigestValue.{DigestValue}
 use Rattle.wire.specs.Values.{same_digest}
 use Rattle.group.specs.Group.{list_fault, quorum_held}
@@ -43,6 +43,10 @@ listed vs = record { count = length vs; list = vs ++ replicate (16 - length vs) 
 
 abbrev pub no_votes : Votes
 no_votes = listed []
+
+-- one vote more, where there is a place left
+abbrev pub with_vote : Votes → Vote → Votes
+with_vote w v = cond (nat_lt w.count 16) (record { count = w.count + 1; list = slice_set w.list w.count v }) w
 
 abbrev pub votes_of : Votes → List Vote
 votes_of v = take (min v.count 16) v.list

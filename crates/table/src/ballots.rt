@@ -1,7 +1,6 @@
 // Votes: who voted for what, and whether they are a quorum.
-ghost use Rattle.std.specs.Prelude.{◌≡◌, ℕ, ◌+◌, ◌<◌, ◌≤◌, length, Some, None, slice_index_or, slice_set};
-ghost use Rattle.table.specs.Ballots.{no_ballots, has_ballot, with_ballot, vote_for, backers, backers_from, listed, votes_of, vote_signer, backed, just_backed};
-ghost use Rattle.table.specs.declared.records.Vote.{Vote};
+ghost use Rattle.std.specs.Prelude.{◌≡◌, ◌≤◌, length};
+ghost use Rattle.table.specs.Ballots.{no_ballots, has_ballot, with_ballot, vote_for, backers, listed, no_votes, with_vote, votes_of, vote_signer, backed, just_backed};
 
 use crate::records::{Ballot, Ballots, Vote, Votes};
 use group::check::{first_fault, holds_quorum};
@@ -9,17 +8,11 @@ use group::rules::AnyMark;
 use group::signed::Signed;
 use wire::records::DigestValue;
 
-pub(crate) const NO_BALLOTS: Ballots = Ballots { of: [None; 16] };
-
+// What stands past the count.
 const NO_VOTE: Vote = Vote {
     signer: 0,
     digest: DigestValue { word: 0 },
     seal: 0,
-};
-
-pub(crate) const NO_VOTES: Votes = Votes {
-    count: 0,
-    list: [NO_VOTE; 16],
 };
 
 impl Signed for Vote {
@@ -31,69 +24,47 @@ impl Signed for Vote {
 }
 
 impl Votes {
-    // One vote more, where there is a place left.
-    pub(crate) fn push(&mut self, vote: Vote)
-        requires { self.old.count < 16 }
-        ensures { self.new ≡ record { count = self.old.count + 1; list = slice_set self.old.list self.old.count vote } }
+    // No vote.
+    pub fn new() -> Votes
+        ensures { result ≡ no_votes }
     {
-        self.list[usize::from(self.count)] = vote;
-        self.count += 1;
+        Votes {
+            count: 0,
+            list: [NO_VOTE; 16],
+        }
+    }
+
+    // One vote more; where all 16 places are taken, nothing changes.
+    pub fn push(&mut self, vote: Vote)
+        ensures { self.new ≡ with_vote self.old vote }
+    {
+        // no `get_mut`: of a slice it does not say what the slice ends as
+        let at = usize::from(self.count);
+        if at < self.list.len() {
+            self.list[at] = vote;
+            self.count += 1;
+        }
     }
 
     pub fn as_slice(&self) -> &[Vote]
         ensures { result.now ≡ votes_of self.now }
     {
         let count = usize::from(self.count).min(16);
-        &self.list[0..count]
-    }
-}
-
-fn slot(slots: &[Option<Ballot>], i: usize) -> Option<Ballot>
-    ensures { result ≡ slice_index_or slots.now i None }
-{
-    if i < slots.len() { slots[i] } else { None }
-}
-
-fn set_slot(slots: &mut [Option<Ballot>], i: usize, ballot: Ballot)
-    ensures { slots.new ≡ slice_set slots.old i (Some ballot) }
-{
-    if i < slots.len() {
-        slots[i] = Some(ballot);
+        &self.list[..count]
     }
 }
 
 #[tactic(auto, unfolding(wire::specs::Values::same_digest))]
-fn vote_for(signer: u8, ballot: &Option<Ballot>, digest: &DigestValue) -> Option<Vote>
-    ensures { result ≡ vote_for digest.now signer ballot.now }
+fn vote_for(signer: u8, ballot: Option<Ballot>, digest: &DigestValue) -> Option<Vote>
+    ensures { result ≡ vote_for digest.now signer ballot }
 {
-    match *ballot {
-        Some(x) => {
-            if x.digest == *digest {
-                return Some(Vote {
-                    signer,
-                    digest: x.digest,
-                    seal: x.seal,
-                });
-            }
-            None
-        }
-        None => None,
-    }
-}
-
-fn backers_in(slots: &[Option<Ballot>], digest: &DigestValue) -> Votes
-    requires { length slots.now ≤ 16 }
-    ensures value { result ≡ listed (backers_from digest.now 0 slots.now) }
-    ensures few { length (backers_from digest.now 0 slots.now) ≤ 16 }
-{
-    let mut votes = NO_VOTES;
-    for (i, x) in slots.iter().enumerate() {
-        match vote_for(i as u8, x, digest) {
-            Some(vote) => votes.push(vote),
-            None => {}
-        }
-    }
-    votes
+    ballot
+        .filter(|ballot| ballot.digest == *digest)
+        .map(|ballot| Vote {
+            signer,
+            digest: ballot.digest,
+            seal: ballot.seal,
+        })
 }
 
 impl Ballots {
@@ -101,21 +72,27 @@ impl Ballots {
     pub fn new() -> Ballots
         ensures { result ≡ no_ballots }
     {
-        NO_BALLOTS
+        Ballots { of: [None; 16] }
     }
 
     // Whether a controller has voted.
     pub fn has(&self, signer: u8) -> bool
         ensures { result ≡ has_ballot self.now signer }
     {
-        slot(&self.of, usize::from(signer)).is_some()
+        self.of
+            .get(usize::from(signer))
+            .is_some_and(|ballot| ballot.is_some())
     }
 
     // A controller's vote; there is no controller from 16 on.
     pub fn put(&mut self, signer: u8, ballot: Ballot)
         ensures { self.new ≡ with_ballot self.old signer ballot }
     {
-        set_slot(&mut self.of, usize::from(signer), ballot);
+        // no `get_mut`: of a slice it does not say what the slice ends as
+        let at = usize::from(signer);
+        if at < self.of.len() {
+            self.of[at] = Some(ballot);
+        }
     }
 
     // The votes for a digest, by ascending signers.
@@ -123,7 +100,13 @@ impl Ballots {
         ensures value { result ≡ listed (backers digest.now self.now) }
         ensures few { length (backers digest.now self.now) ≤ 16 }
     {
-        backers_in(&self.of, digest)
+        let mut votes = Votes::new();
+        for (signer, ballot) in self.of.iter().enumerate() {
+            if let Some(vote) = vote_for(signer as u8, *ballot, digest) {
+                votes.push(vote);
+            }
+        }
+        votes
     }
 
     // Whether a quorum voted for a digest.

@@ -1,21 +1,29 @@
 // The place of one number.
 ghost use Rattle.std.specs.Prelude.{◌≡◌};
-ghost use Rattle.table.specs.Places.{filled, supplied, prepared, committed, certified, proposes, kept_batch, entered};
+ghost use Rattle.table.specs.Places.{empty_place, filled, supplied, prepared, committed, certified, proposes, kept_batch, entered};
 
-use crate::ballots::NO_BALLOTS;
-use crate::records::{Ballot, Certificate, Place};
+use crate::records::{Ballot, Ballots, Certificate, Place};
 use wire::records::{Batch, DigestValue};
 
 impl Place {
+    pub(crate) fn new() -> Place
+        ensures { result ≡ empty_place }
+    {
+        Place {
+            proposal: None,
+            batch: None,
+            prepares: Ballots::new(),
+            commits: Ballots::new(),
+            certificate: None,
+        }
+    }
+
     // Whether it is filled with a digest.
     #[tactic(auto, unfolding(wire::specs::Values::same_digest))]
     pub fn proposes(&self, digest: &DigestValue) -> bool
         ensures { result ≡ proposes self.now.proposal digest.now }
     {
-        match self.proposal {
-            Some(d) => d == *digest,
-            None => false,
-        }
+        self.proposal.is_some_and(|d| d == *digest)
     }
 
     pub(crate) fn fill(&mut self, digest: DigestValue, batch: Option<Batch>)
@@ -61,22 +69,15 @@ impl Place {
         if *digest == DigestValue::from(0) {
             return Some(Batch::new());
         }
-        if self.proposes(digest) {
-            return self.batch;
-        }
-        None
+        self.batch.filter(|_| self.proposes(digest))
     }
 
     pub(crate) fn enter(&mut self, chosen: Option<DigestValue>)
         ensures { self.new ≡ entered chosen self.old }
     {
-        let batch = match chosen {
-            Some(d) => self.kept_batch(&d),
-            None => None,
-        };
+        self.batch = chosen.and_then(|digest| self.kept_batch(&digest));
         self.proposal = chosen;
-        self.batch = batch;
-        self.prepares = NO_BALLOTS;
-        self.commits = NO_BALLOTS;
+        self.prepares = Ballots::new();
+        self.commits = Ballots::new();
     }
 }

@@ -22,7 +22,8 @@ pub struct Vote {
     pub seal: u64,
 }
 
-// Votes by ascending signers; past the count are zeros.
+// Votes by ascending signers; past the count are zeros. A count beside the places, since this is copied as a whole,
+// which the kit's `ArrayVec` is not.
 #[derive(Clone, Copy)]
 pub struct Votes {
     pub count: u8,

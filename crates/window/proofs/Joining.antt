@@ -1,5 +1,6 @@
 -- Deliveries by their served requests, and one after another.
 use Rattle.std.proofs.Common.{◌≡◌, ℕ, suc, ◌+◌, true, false, ◌⊎◌, List, [], ◌∷◌, ◌++◌, length, fold, sym, refl, ap, ◌∙◌, inl, inr, add-zero, arith}
+use Rattle.std.proofs.lemmas.List.Sums.{fold-append}
 use Rattle.std.proofs.lemmas.Bool.{cases_Bool}
 use Rattle.wire.specs.declared.records.Request.{Request}
 use Rattle.window.specs.declared.windows.Windows.{Windows}
@@ -8,10 +9,6 @@ use Rattle.window.specs.Histories.{windows_then, windows_after, served, applied_
 use Rattle.window.specs.Laws.{Delivers, DeliveryJoins, resumed, ServedJoins}
 use Rattle.window.proofs.Turns.{taken_yes, taken_no}
 use Rattle.window.proofs.Serving.{admitted, marking, served_yes, served_no, then_yes, then_no}
-
-folded_append : {A B : Type 0} (f : B → A → B) (b : B) (xs ys : List A) → fold f b (xs ++ ys) ≡ fold f (fold f b xs) ys
-folded_append f b [] ys = refl
-folded_append f b (x ∷ xs) ys = folded_append f (f b x) xs ys
 
 served_append : (ws : Windows) (xs ys : List Request) → served ws (xs ++ ys) ≡ served ws xs ++ served (windows_after ws xs) ys
 served_append ws [] ys = refl
@@ -31,7 +28,7 @@ served_append ws (q ∷ xs) ys = go (cases_Bool (admitted ws q)) (served_append 
         ∙ sym (ap (λ (v : Windows). served ws (q ∷ xs) ++ served (windows_after v xs) ys) (then_no ws q e))
 
 pub served_joins : ServedJoins
-served_joins ws xs ys = (served_append ws xs ys, folded_append windows_then ws xs ys)
+served_joins ws xs ys = (served_append ws xs ys, fold-append windows_then ws xs ys)
 
 module _ {X : Type 0} (next : X → ℕ → ℕ → ℕ → X) where
   -- the course from any counts, by what is served
@@ -106,4 +103,4 @@ module _ {X : Type 0} (next : X → ℕ → ℕ → ℕ → X) where
 
   pub delivery_joins : DeliveryJoins next
   delivery_joins x ws xs ys =
-      folded_append (taken next) (record { app = x; windows = ws; applied = 0; passed = 0 }) xs ys ∙ resumes (delivered next x ws xs) ys
+      fold-append (taken next) (record { app = x; windows = ws; applied = 0; passed = 0 }) xs ys ∙ resumes (delivered next x ws xs) ys

@@ -1,8 +1,7 @@
 -- What is seen before and after a mark.
-use Rattle.std.proofs.Common.{◌≡◌, ℕ, zero, suc, ◌+◌, ◌-◌, ◌/◌, ◌%◌, ◌^◌, ◌<◌, ◌≤◌, max, true, false, ◌||◌, eqb, leb, ◌⊎◌, sym, refl, ap, ◌∙◌, inl, inr, pow-suc, arith, pow_pos, pow-add, shr-shr}
-use native.Mathlib.Nat.{div-eq_of_lt, div_self, zero-div}
-use lib.Bits.{bit_or, or_step, or_shr}
-use lib.Pow.{pow-lt, shl-shr}
+use Rattle.std.proofs.Common.{◌≡◌, ℕ, zero, suc, ◌+◌, ◌-◌, ◌/◌, ◌%◌, ◌^◌, ◌<◌, ◌≤◌, true, false, ◌||◌, eqb, leb, ◌⊎◌, sym, refl, ap, ◌∙◌, inl, inr, arith, shr-shr}
+use lib.Bits.{bit_or}
+use Rattle.std.proofs.lemmas.Nat.Bits.{bit_at_or, bit_at-pow_same, bit_at-pow_other, bit_at-lt, bit_at-zero}
 use Rattle.std.proofs.lemmas.Bool.{cases_lt, cases_eq, cases_order, eq-eqb, ne_eqb, eqb-true, le-leb, lt-leb, or_left, or_right, or_from, cond_both, cond-true, cond-false}
 use Rattle.window.specs.declared.span.Span.{Span}
 use Rattle.window.specs.Spans.{bit, free, seen, put, up, rise}
@@ -10,32 +9,11 @@ use Rattle.window.specs.Marked.{after, fresh, free_range}
 use Rattle.window.specs.Laws.{MarkAdds, FreeUnseen, ElseUnchanged}
 use Rattle.window.proofs.Same.{same_window}
 
-lowest_or : (a b : ℕ) → bit_or a b % 2 ≡ max (a % 2) (b % 2)
-lowest_or a b = omega (arith, or_step a b)
-
-pow_even : (i : ℕ) → 0 < i → 2 ^ i % 2 ≡ 0
-pow_even zero h = absurd (omega arith)
-pow_even (suc i) h = omega (arith, pow-suc 2 i)
-
--- a power of two has no other bit than its own
-pow_bit : (j k : ℕ) → (j ≡ k → ⊥) → 2 ^ j / 2 ^ k % 2 ≡ 0
-pow_bit j k ne = go (cases_lt j k)
-  where
-    go : (j < k) ⊎ (k ≤ j) → 2 ^ j / 2 ^ k % 2 ≡ 0
-    go (inl h) = ap (λ n. n % 2) (div-eq_of_lt (pow-lt h))
-    go (inr h) =
-        let above : 0 < j - k = omega arith in
-        let back : j - k + k ≡ j = omega arith in
-        ap (λ n. 2 ^ n / 2 ^ k % 2) (sym back) ∙ ap (λ n. n / 2 ^ k % 2) (pow-add 2 (j - k) k) ∙ ap (λ n. n % 2) (shl-shr (2 ^ (j - k)) k) ∙ pow_even (j - k) above
-
 bit_set : (m k : ℕ) → bit_or m (2 ^ k) / 2 ^ k % 2 ≡ 1
-bit_set m k =
-    let own : 2 ^ k / 2 ^ k ≡ 1 = div_self (pow_pos k) in
-    ap (λ n. n % 2) (or_shr m (2 ^ k) k) ∙ lowest_or (m / 2 ^ k) (2 ^ k / 2 ^ k) ∙ ap (λ n. max (m / 2 ^ k % 2) (n % 2)) own ∙ omega arith
+bit_set m k = bit_at_or m (2 ^ k) k ∙ omega (arith, bit_at-pow_same k, bit_at-lt m k)
 
 bit_kept : (m j k : ℕ) → (j ≡ k → ⊥) → bit_or m (2 ^ j) / 2 ^ k % 2 ≡ m / 2 ^ k % 2
-bit_kept m j k ne =
-    ap (λ n. n % 2) (or_shr m (2 ^ j) k) ∙ lowest_or (m / 2 ^ k) (2 ^ j / 2 ^ k) ∙ ap (λ n. max (m / 2 ^ k % 2) n) (pow_bit j k ne) ∙ omega arith
+bit_kept m j k ne = bit_at_or m (2 ^ j) k ∙ omega (arith, bit_at-pow_other j k (λ e. ne (sym e)))
 
 pub seen_put : (s : Span) (t u : ℕ) → s.base < t → seen (put s t) u ≡ (eqb u t || seen s u)
 seen_put s t u above = go (cases_lt s.base u) (cases_eq u t)
@@ -91,4 +69,4 @@ else_unchanged w t e = same_window (after w t) w (cond-false (free w.span t) (ri
 pub fresh_unseen : (u : ℕ) → 1 ≤ u → seen fresh.span u ≡ false
 fresh_unseen u h =
     or_from (leb u 0) (eqb (bit fresh.span u) 1) (lt-leb u 0 h)
-    (ne_eqb (bit fresh.span u) 1 (λ e. let z : 0 / 2 ^ (u - 0 - 1) ≡ 0 = zero-div (2 ^ (u - 0 - 1)) in omega (arith, z, e)))
+    (ne_eqb (bit fresh.span u) 1 (λ e. omega (arith, bit_at-zero (u - 0 - 1), e)))

@@ -1,5 +1,5 @@
 // What is free in a window, and what a mark changes.
-ghost use Rattle.std.specs.Prelude.{◌≡◌, ◌-◌, ◌^◌, ◌<◌, min};
+ghost use Rattle.std.specs.Prelude.{◌≡◌, ◌-◌, ◌^◌, ◌<◌, min, true, SomeIff};
 ghost use Rattle.window.specs.Spans.{free, marked, rise};
 ghost use Rattle.window.specs.Marked.{after, fresh};
 
@@ -7,32 +7,32 @@ use crate::span::Span;
 use crate::window::Window;
 
 impl Span {
-    fn is_free(&self, timestamp: u32) -> bool
-        ensures { result ≡ free self.now timestamp }
+    // Which bit is the mark of a timestamp, if it is one of the 64 above the base and not marked.
+    fn free_bit(&self, timestamp: u32) -> Option<u32>
+        ensures { SomeIff result (free self.now timestamp ≡ true) (timestamp - self.now.base - 1) }
     {
-        if timestamp <= self.base || timestamp - self.base > 64 {
-            return false;
-        }
-        (self.marks >> (timestamp - self.base - 1)) % 2 == 0
+        timestamp
+            .checked_sub(self.base)?
+            .checked_sub(1)
+            .filter(|bit| *bit < 64 && (self.marks >> *bit) % 2 == 0)
     }
 
-    // While the lowest mark is set, the base rises by one.
+    // The base rises past the marks that are set from the lowest one on.
     fn settle(&mut self)
         requires { self.old.marks < 2 ^ min 64 (4294967295 - self.old.base) }
         ensures { self.new ≡ rise 64 self.old }
     {
-        while self.marks % 2 == 1 {
-            self.marks /= 2;
-            self.base += 1;
-        }
+        let set = self.marks.trailing_ones();
+        self.marks = self.marks.unbounded_shr(set);
+        self.base += set;
     }
 
     fn mark(&mut self, timestamp: u32)
         requires { self.old.marks < 2 ^ min 64 (4294967295 - self.old.base) }
         ensures { self.new ≡ marked self.old timestamp }
     {
-        if self.is_free(timestamp) {
-            self.marks |= 1 << (timestamp - self.base - 1);
+        if let Some(bit) = self.free_bit(timestamp) {
+            self.marks |= 1 << bit;
             self.settle();
         }
     }
@@ -66,7 +66,7 @@ impl Window {
     pub fn is_free(&self, timestamp: u32) -> bool
         ensures { result ≡ free self.now.span timestamp }
     {
-        self.span.is_free(timestamp)
+        self.span.free_bit(timestamp).is_some()
     }
 
     // A timestamp that is not free changes nothing.

@@ -25,25 +25,25 @@ impl Windows {
     pub fn window(&self, client: u8) -> Option<Window>
         ensures { result ≡ window_at self.now client }
     {
-        if client > LAST_CLIENT {
-            return None;
-        }
-        Some(self.clients[client as usize])
+        self.clients.get(usize::from(client)).copied()
     }
 
     // Whether a request of this client and timestamp would be applied.
     pub fn admits(&self, client: u8, timestamp: u32) -> bool
         ensures { result ≡ admits self.now client timestamp }
     {
-        client <= LAST_CLIENT && self.clients[client as usize].is_free(timestamp)
+        self.clients
+            .get(usize::from(client))
+            .is_some_and(|window| window.is_free(timestamp))
     }
 
     // What is not admitted changes nothing.
     pub fn mark(&mut self, client: u8, timestamp: u32)
         ensures { self.new ≡ marks self.old client timestamp }
     {
+        // no `get_mut`: of a slice it does not say what the slice ends as
         if client <= LAST_CLIENT {
-            self.clients[client as usize].mark(timestamp);
+            self.clients[usize::from(client)].mark(timestamp);
         }
     }
 }
