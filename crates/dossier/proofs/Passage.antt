@@ -7,7 +7,8 @@ use Rattle.seal.specs.Records.{signer_of}
 use Rattle.group.specs.Group.{Stood}
 use Rattle.group.proofs.Groups.{stood}
 use Rattle.dossier.specs.declared.parts.Terms.{Terms}
-use Rattle.dossier.specs.declared.tally.Span.{Span}
+use Rattle.dossier.specs.declared.parts.Claim.{Claim}
+use Rattle.dossier.specs.declared.tally.Found.{Found}
 use Rattle.dossier.specs.declared.parts.Opened.{Opened}
 use Rattle.dossier.specs.Walk.{onward, largest, mark_at, stable_fits, numbers, checkpoints, walked}
 use Rattle.dossier.proofs.Steps.{stables_enough}
@@ -42,7 +43,7 @@ module _ (accepts : Statement → ℕ → Bool) (terms : Terms) (rs : List Seale
     pub start : ℕ
     pub marked : checkpoints accepts terms rs o.base terms.q ≡ Ok start
     pub end : ℕ
-    pub counted : numbers accepts terms rs (take terms.q rs) 32 (o.base + 1) start [] ≡ Ok (record { claims = o.claims; next = end })
+    pub counted : numbers accepts terms rs (take terms.q rs) 32 (o.base + 1) start [] ≡ Ok (record { value = o.claims; next = end })
     pub whole : length rs ≤ end
 
   pub parts : (o : Opened) → walked accepts terms rs ≡ Ok o → Parts o
@@ -57,8 +58,8 @@ module _ (accepts : Statement → ℕ → Bool) (terms : Terms) (rs : List Seale
       B : ℕ
       B = largest (take terms.q rs)
 
-      finish : (p : ℕ) → p ≡ terms.q → Stood signer_of (stable_fits accepts terms) terms.n terms.q 0 0 rs p → B ≤ 1000000000000 → (s : ℕ) → checkpoints accepts terms rs B p ≡ Ok s → (w : Span) → numbers accepts terms rs (take terms.q rs) 32 (B + 1) s [] ≡ Ok w
-          → ((ltb w.next (length rs) ≡ true) × (◌≡◌ {A = Result Opened ℕ} (Err w.next) (Ok o))) ⊎ ((ltb w.next (length rs) ≡ false) × (◌≡◌ {A = Result Opened ℕ} (Ok (record { base = B; mark = mark_at rs B p; claims = w.claims })) (Ok o)))
+      finish : (p : ℕ) → p ≡ terms.q → Stood signer_of (stable_fits accepts terms) terms.n terms.q 0 0 rs p → B ≤ 1000000000000 → (s : ℕ) → checkpoints accepts terms rs B p ≡ Ok s → (w : Found (List Claim)) → numbers accepts terms rs (take terms.q rs) 32 (B + 1) s [] ≡ Ok w
+          → ((ltb w.next (length rs) ≡ true) × (◌≡◌ {A = Result Opened ℕ} (Err w.next) (Ok o))) ⊎ ((ltb w.next (length rs) ≡ false) × (◌≡◌ {A = Result Opened ℕ} (Ok (record { base = B; mark = mark_at rs B p; claims = w.value })) (Ok o)))
           → Parts o
       finish p k st low s es w ew (inl h) = never _ o h.1
       finish p k st low s es w ew (inr h) =

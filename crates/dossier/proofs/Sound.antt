@@ -177,7 +177,7 @@ module _ (accepts : Statement → ℕ → Bool) (terms : Terms) (honest : ℕ �
       one : (r : Sealed) → exactly accepts kind e s d r ≡ true → Fair r → honest (signer_of r) ≡ true → Issued (record { kind = kind; signer = signer_of r; epoch = e; number = s; held = 0; digest = d })
       one r k f hon = let x = exact_is accepts kind e s d r k in subst Issued x.0 (f x.1 hon)
 
-  module _ (fair : AllByRecursion Fair rs) (w : Parts accepts terms rs o) (k : Counted accepts terms rs (take terms.q rs) 32 (o.base + 1) w.start [] (record { claims = o.claims; next = w.end })) where
+  module _ (fair : AllByRecursion Fair rs) (w : Parts accepts terms rs o) (k : Counted accepts terms rs (take terms.q rs) 32 (o.base + 1) w.start [] (record { value = o.claims; next = w.end })) where
     long : length o.claims ≡ 32
     long = ap length k.is ∙ k.size
 

@@ -9,12 +9,18 @@ pub struct Terms {
     pub epoch: u32,
 }
 
-// The highest held epoch of a number and its digest; epoch 0 where nobody holds one.
+// The highest held epoch of a number and its digest; epoch 0 where nobody holds one. No Option
+// says that: frames have that 0 too, epochs are compared with it, and it comes with digest 0.
 #[derive(Clone, Copy)]
 pub struct Claim {
     pub epoch: u32,
     pub digest: DigestValue,
 }
+
+pub(crate) const NO_CLAIM: Claim = Claim {
+    epoch: 0,
+    digest: DigestValue { word: 0 },
+};
 
 // The base h, the mark of its checkpoints (0 where h is 0) and the claims of h + 1 to h + 32.
 #[derive(Clone, Copy)]

@@ -31,11 +31,7 @@ impl<'a, C: SealChecker> Rule<Sealed> for Target<'a, C> {
 pub(crate) fn base_of(stables: &[Sealed]) -> u64
     ensures { result ≡ largest stables.now }
 {
-    let mut base = 0;
-    for t in stables {
-        if base < t.statement.number {
-            base = t.statement.number;
-        }
-    }
-    base
+    stables
+        .iter()
+        .fold(0, |base, t| base.max(t.statement.number))
 }
