@@ -1,6 +1,9 @@
 // What a dossier is judged by, and what an accepted one says.
 use wire::records::DigestValue;
 
+// The largest number there is; no dossier with a base above it is accepted.
+pub const LAST: u64 = 1_000_000_000_000;
+
 // The number of controllers, the size of a quorum and the new epoch.
 #[derive(Clone, Copy)]
 pub struct Terms {

@@ -2,14 +2,12 @@
 ghost use Rattle.std.specs.Prelude.{◌≡◌};
 ghost use Rattle.dossier.specs.Walk.{stable_fits, largest};
 
+use crate::parts::LAST;
 use crate::target::Target;
 use group::rules::Rule;
 use seal::checker::SealChecker;
 use wire::kinds::STABLE;
 use wire::records::{DigestValue, Sealed};
-
-// The largest number there is.
-const LAST: u64 = 1_000_000_000_000;
 
 // A stable statement for the new epoch; its seal is tried last.
 impl<'a, C: SealChecker> Rule<Sealed> for Target<'a, C> {
