@@ -1,6 +1,6 @@
 -- What each part of a walk that came through shows, place by place.
 use Rattle.std.proofs.Common.{◌≡◌, ℕ, zero, suc, ◌+◌, ◌-◌, ◌<◌, ◌≤◌, Bool, true, false, cond, not, ◌&&◌, ◌||◌, eqb, ltb, ◌⊎◌, List, [], ◌∷◌, ◌++◌, length, get_or, take, drop, Some, None, Ok, Option, Result, sym, refl, ap, ◌∙◌, subst, inl, inr, arith}
-use Rattle.std.proofs.lemmas.Bool.{and_parts, eqb-true, eqb-false, ltb-true, ltb-false, cases_lt, cond_both, both_ways, cases_Bool, true≢false, and_cases, or_parts, or_cases, eq-eqb, not-true}
+use Rattle.std.proofs.lemmas.Bool.{and_parts, eqb-true, eqb-false, ltb-true, ltb-false, cases_lt, cond_both, both_ways, cases_Bool, and_cases, or_parts, or_cases, eq-eqb, not-true}
 use Rattle.std.proofs.lemmas.List.{get_or-take, get_or-drop, length-take-le, append_assoc, append-nil}
 use Rattle.std.proofs.ByRecursion.{All-get_or}
 use Rattle.std.specs.List.{AllByRecursion}
@@ -18,33 +18,30 @@ use Rattle.dossier.specs.declared.parts.Claim.{Claim}
 use Rattle.dossier.specs.declared.tally.Tally.{Tally}
 use Rattle.dossier.specs.declared.tally.Found.{Found}
 use Rattle.dossier.specs.Walk.{onward, or_fault, no_claim, blank, asked, last_asked, tallied, held_fits, held_one, helds_from, helds, found, numbers}
-use Rattle.dossier.proofs.Passage.{never, through, ok_is, went}
+use Rattle.dossier.proofs.Passage.{through, ok_is, went}
 
 -- a held epoch and digest that a tally has taken in: no higher than its highest and, at that and without a clash, of its digest
 abbrev pub Agrees : ℕ → DigestValue → Tally → Type 0
 Agrees e d c = (e ≤ c.claim.epoch) × (e ≡ c.claim.epoch → c.clash ≡ false → d ≡ c.claim.digest)
-
-untrue : {A : Type 0} → ◌≡◌ {A = Bool} true false → A
-untrue e = absurd (true≢false e)
 
 tallied_new : (c : Tally) (st : Statement) → Agrees st.held st.digest (tallied c st)
 tallied_new c st =
     cond_both {A = Tally} (ltb c.claim.epoch st.held) (record { claim = record { epoch = st.held; digest = st.digest }; clash = false }) _ (Agrees st.held st.digest)
     (λ h. (omega arith, λ _ _. refl))
     (λ h. cond_both {A = Tally} (eqb st.held c.claim.epoch && not (same_digest st.digest c.claim.digest)) (record { claim = c.claim; clash = true }) c (Agrees st.held st.digest)
-    (λ _. (omega (arith, ltb-false _ _ h), λ _ k. untrue k))
+    (λ _. (omega (arith, ltb-false _ _ h), λ _ k. absurd cc))
     (λ k. (omega (arith, ltb-false _ _ h), λ e _. same (same_digest st.digest c.claim.digest) refl (and_cases (eqb st.held c.claim.epoch) _ k) e)))
   where
     same : (b : Bool) → same_digest st.digest c.claim.digest ≡ b → (eqb st.held c.claim.epoch ≡ false) ⊎ (not b ≡ false) → st.held ≡ c.claim.epoch → st.digest ≡ c.claim.digest
     same b k (inl h) e = absurd (eqb-false _ _ h e)
     same true k (inr h) e = same_digest_is _ _ k
-    same false k (inr h) e = untrue h
+    same false k (inr h) e = absurd cc
 
 tallied_old : (e : ℕ) (d : DigestValue) (c : Tally) (st : Statement) → Agrees e d c → Agrees e d (tallied c st)
 tallied_old e d c st a =
     cond_both {A = Tally} (ltb c.claim.epoch st.held) (record { claim = record { epoch = st.held; digest = st.digest }; clash = false }) _ (Agrees e d)
     (λ h. (omega (arith, a.0, ltb-true _ _ h), λ k _. absurd (omega (arith, a.0, ltb-true _ _ h))))
-    (λ _. cond_both {A = Tally} (eqb st.held c.claim.epoch && not (same_digest st.digest c.claim.digest)) (record { claim = c.claim; clash = true }) c (Agrees e d) (λ _. (a.0, λ _ k. untrue k)) (λ _. a))
+    (λ _. cond_both {A = Tally} (eqb st.held c.claim.epoch && not (same_digest st.digest c.claim.digest)) (record { claim = c.claim; clash = true }) c (Agrees e d) (λ _. (a.0, λ _ k. absurd cc)) (λ _. a))
 
 -- and no bound is passed that both keep
 tallied_below : (m : ℕ) (c : Tally) (st : Statement) → c.claim.epoch < m → st.held < m → (tallied c st).claim.epoch < m
@@ -62,9 +59,6 @@ tallied_empty c st a =
 pub some_is : {A : Type 0} (a b : A) → ◌≡◌ {A = Option A} (Some a) (Some b) → a ≡ b
 some_is a b e = cc
 
-pub nothing : {A B : Type 0} (a : A) → ◌≡◌ {A = Option A} None (Some a) → B
-nothing a e = let z : ◌≡◌ {A = ℕ} 0 1 = cc in absurd (omega arith)
-
 pub record Passed {A B : Type 0} (x : Option A) (f : A → Result B ℕ) (b : B) : Type 0 where
   pub value : A
   pub first : x ≡ Some value
@@ -72,7 +66,7 @@ pub record Passed {A B : Type 0} (x : Option A) (f : A → Result B ℕ) (b : B)
 
 pub passed : {A B : Type 0} (x : Option A) (place : ℕ) (f : A → Result B ℕ) (b : B) → or_fault x place f ≡ Ok b → Passed x f b
 passed (Some a) place f b e = record { value = a; first = refl; second = e }
-passed None place f b e = never place b e
+passed None place f b e = absurd cc
 
 -- a claim as the tally that it came of
 abbrev pub settled : Claim → Tally
@@ -134,7 +128,7 @@ module _ (accepts : Statement → ℕ → Bool) (terms : Terms) (rs : List Seale
           let d = and_parts (not (is_last && (tallied c (get_or rs place none).statement).clash)) _ b.1 in
           let same = some_is (tallied c (get_or rs place none).statement) c' k in
           record { inside = ltb-true _ _ a.0; fits = b.0; calm = subst (λ (t : Tally). not (is_last && t.clash) ≡ true) same d.0; ok = d.1; after = same }
-      go false h k = nothing c' k
+      go false h k = absurd cc
 
   -- who is asked has its held statement, which the tally has taken in
   abbrev pub Answered : ℕ → Tally → Sealed → Type 0
@@ -211,11 +205,11 @@ module _ (accepts : Statement → ℕ → Bool) (terms : Terms) (rs : List Seale
 
   calm_of : (b x : Bool) → b ≡ true → not (b && x) ≡ true → x ≡ false
   calm_of true x e h = not-true x h
-  calm_of false x e h = untrue (sym e)
+  calm_of false x e h = absurd cc
 
   -- nobody clashed at the highest
   calmed : (s j l : ℕ) (c : Tally) (place : ℕ) (ts : List Sealed) (g : Found Tally) → some_asked s ts ≡ true → helds_from accepts terms rs s (last_asked s j l ts) j c place ts ≡ Ok g → g.value.clash ≡ false
-  calmed s j l c place [] g h e = untrue (sym h)
+  calmed s j l c place [] g h e = absurd cc
   calmed s j l c place (t ∷ ts) g h e = go (went (asked s t) _ _ _ e) (cases_Bool (some_asked s ts)) (λ c place. calmed s (j + 1) (cond (asked s t) j l) c place ts g)
     where
       go : ((asked s t ≡ true) × (or_fault (held_one accepts terms rs s t.statement.signer (eqb j (last_asked s (j + 1) (cond (asked s t) j l) ts)) c place) place (λ c'. helds_from accepts terms rs s (last_asked s (j + 1) (cond (asked s t) j l) ts) (j + 1) c' (place + 1) ts) ≡ Ok g))

@@ -20,7 +20,7 @@ use Rattle.dossier.specs.declared.parts.Opened.{Opened}
 use Rattle.dossier.specs.Walk.{no_claim, asked, held_fits, larger, largest, mark_at, stable_fits, walked, reach, top, chosen, checkpoint_group}
 use Rattle.dossier.specs.Laws.{prepare_by, checkpoint_by, stable_by, held_by, highest_of, digest_of, Genuine, Holds, Said, Sound, SealsHold, AllAccepted, DossierSound, Admitted}
 use Rattle.dossier.proofs.Passage.{ok_is, went, Parts, parts}
-use Rattle.dossier.proofs.Shown.{some_is, nothing, exact_is, held_below, Covered, covers, group_covers, Answered, settled, Claimed, Row, Counted, counted, row_at}
+use Rattle.dossier.proofs.Shown.{some_is, exact_is, held_below, Covered, covers, group_covers, Answered, settled, Claimed, Row, Counted, counted, row_at}
 use Rattle.dossier.proofs.Within.{walked_within}
 
 stable_is : (accepts : Statement → ℕ → Bool) (terms : Terms) (r : Sealed) → stable_fits accepts terms r ≡ true → (r.statement ≡ stable_by (signer_of r) terms.epoch r.statement.number) × (accepts r.statement r.seal ≡ true)
@@ -239,7 +239,7 @@ module _ (accepts : Statement → ℕ → Bool) (terms : Terms) (honest : ℕ �
     only s d e = go (went (ltb o.base s && leb s (top o)) _ _ _ e)
       where
         go : (((ltb o.base s && leb s (top o)) ≡ true) × (◌≡◌ {A = Option DigestValue} (Some (digest_of o s)) (Some d))) ⊎ (((ltb o.base s && leb s (top o)) ≡ false) × (◌≡◌ {A = Option DigestValue} None (Some d))) → (o.base < s) × (s ≤ top o) × (d ≡ digest_of o s)
-        go (inr h) = nothing d h.1
+        go (inr h) = absurd cc
         go (inl h) =
             let a = and_parts (ltb o.base s) (leb s (top o)) h.0 in
             (ltb-true _ _ a.0, leb-true _ _ a.1, sym (some_is (digest_of o s) d h.1))

@@ -49,24 +49,27 @@ impl Tally {
     }
 }
 
-// Whether a statement is the held statement of a signer for s and the new epoch, its seal aside.
-fn fits_held(st: &Statement, epoch: u32, s: u64, signer: u8) -> bool
-    ensures { result ≡ held_fits epoch s signer st.now }
-{
-    st.kind == HELD
-        && st.signer == signer
-        && st.epoch == epoch
-        && st.number == s
-        && st.held < epoch
-        && (st.held != 0 || st.digest.equals(&DigestValue::from_number(0)))
-}
-
-// A record that is looked for: a number, its signer, and whether it is the last of its number.
+// A held statement that is looked for: its number, its signer, and whether it is the last of that
+// number.
 #[derive(Clone, Copy)]
 struct Sought {
     pub number: u64,
     pub signer: u8,
     pub is_last: bool,
+}
+
+impl Sought {
+    // Whether a statement is the one for the new epoch, its seal aside.
+    fn fits(&self, st: &Statement, epoch: u32) -> bool
+        ensures { result ≡ held_fits epoch self.now.number self.now.signer st.now }
+    {
+        st.kind == HELD
+            && st.signer == self.signer
+            && st.epoch == epoch
+            && st.number == self.number
+            && st.held < epoch
+            && (st.held != 0 || st.digest.equals(&DigestValue::from_number(0)))
+    }
 }
 
 impl<C: SealChecker> Target<'_, C> {
@@ -76,7 +79,7 @@ impl<C: SealChecker> Target<'_, C> {
     {
         let r = records.get(place)?;
         let after = tally.with(&r.statement);
-        let stands = fits_held(&r.statement, self.terms.epoch, sought.number, sought.signer)
+        let stands = sought.fits(&r.statement, self.terms.epoch)
             && !(sought.is_last && after.clash)
             && self.checker.genuine(&r.statement, r.seal);
         stands.then_some(after)

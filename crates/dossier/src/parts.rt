@@ -25,7 +25,8 @@ pub(crate) const NO_CLAIM: Claim = Claim {
     digest: DigestValue { word: 0 },
 };
 
-// The base h, the mark of its checkpoints (0 where h is 0) and the claims of h + 1 to h + 32.
+// The base h, the mark of its checkpoints (0 where h is 0) and the claims of h + 1 to h + 32. The
+// mark is no Option: base 0 says already that there is none.
 #[derive(Clone, Copy)]
 pub struct Opened {
     pub base: u64,

@@ -17,7 +17,7 @@ use Rattle.dossier.specs.declared.parts.Opened.{Opened}
 use Rattle.dossier.specs.declared.tally.Tally.{Tally}
 use Rattle.dossier.specs.declared.tally.Found.{Found}
 use Rattle.dossier.specs.Walk.{onward, or_fault, largest, mark_at, last_asked, blank, tallied, held_fits, stable_fits, quorum_from, held_one, helds_from, found, numbers, checkpoints, after_stables, walked}
-use Rattle.dossier.proofs.Passage.{never, went}
+use Rattle.dossier.proofs.Passage.{went}
 use Rattle.dossier.proofs.Steps.{stables_enough}
 use Rattle.host.specs.Partings.{one_at, first_of, stable_in, held_in, claim_in, claimed_epoch, checkpoints_in, prepares_in, higher, highest}
 use Rattle.host.specs.Assembly.{base_in, at_number, at_numbers, assembled}
@@ -32,7 +32,7 @@ grouped_on names allows n place z place' least [] ys e = ap Ok (omega arith)
 grouped_on names allows n place z place' least (x ∷ xs) ys e =
     elim (went (stands names allows n least x) _ _ _ e) [
       | inl w ↦ cond-true _ _ _ w.0 ∙ grouped_on names allows n (place + 1) z (place' + 1) (names x + 1) xs ys w.1 ∙ ap Ok (omega arith)
-      | inr w ↦ never place z w.1
+      | inr w ↦ absurd cc
     ]
 
 -- the same, where the first record sets the digest
