@@ -7,13 +7,11 @@ use Rattle.seal.specs.Records.{signer_of}
 use Rattle.group.specs.Group.{Stood}
 use Rattle.group.proofs.Groups.{stood}
 use Rattle.dossier.specs.declared.parts.Terms.{Terms}
-use Rattle.dossier.specs.declared.tally.Span.{Span}
+use Rattle.dossier.specs.declared.parts.Claim.{Claim}
+use Rattle.dossier.specs.declared.tally.Found.{Found}
 use Rattle.dossier.specs.declared.parts.Opened.{Opened}
 use Rattle.dossier.specs.Walk.{onward, largest, mark_at, stable_fits, numbers, checkpoints, walked}
 use Rattle.dossier.proofs.Steps.{stables_enough}
-
-pub never : {A B : Type 0} (i : ℕ) (a : A) → ◌≡◌ {A = Result A ℕ} (Err i) (Ok a) → B
-never i a e = let z : ◌≡◌ {A = ℕ} 0 1 = cc in absurd (omega arith)
 
 pub record Through {A B : Type 0} (x : Result A ℕ) (f : A → Result B ℕ) (b : B) : Type 0 where
   pub value : A
@@ -23,7 +21,7 @@ pub record Through {A B : Type 0} (x : Result A ℕ) (f : A → Result B ℕ) (b
 -- a part after another has both come through
 pub through : {A B : Type 0} (x : Result A ℕ) (f : A → Result B ℕ) (b : B) → onward x f ≡ Ok b → Through x f b
 through (Ok a) f b e = record { value = a; first = refl; second = e }
-through (Err i) f b e = never i b e
+through (Err i) f b e = absurd cc
 
 pub ok_is : {A : Type 0} (a b : A) → ◌≡◌ {A = Result A ℕ} (Ok a) (Ok b) → a ≡ b
 ok_is a b e = cc
@@ -42,7 +40,7 @@ module _ (accepts : Statement → ℕ → Bool) (terms : Terms) (rs : List Seale
     pub start : ℕ
     pub marked : checkpoints accepts terms rs o.base terms.q ≡ Ok start
     pub end : ℕ
-    pub counted : numbers accepts terms rs (take terms.q rs) 32 (o.base + 1) start [] ≡ Ok (record { claims = o.claims; next = end })
+    pub counted : numbers accepts terms rs (take terms.q rs) 32 (o.base + 1) start [] ≡ Ok (record { value = o.claims; next = end })
     pub whole : length rs ≤ end
 
   pub parts : (o : Opened) → walked accepts terms rs ≡ Ok o → Parts o
@@ -57,10 +55,10 @@ module _ (accepts : Statement → ℕ → Bool) (terms : Terms) (rs : List Seale
       B : ℕ
       B = largest (take terms.q rs)
 
-      finish : (p : ℕ) → p ≡ terms.q → Stood signer_of (stable_fits accepts terms) terms.n terms.q 0 0 rs p → B ≤ 1000000000000 → (s : ℕ) → checkpoints accepts terms rs B p ≡ Ok s → (w : Span) → numbers accepts terms rs (take terms.q rs) 32 (B + 1) s [] ≡ Ok w
-          → ((ltb w.next (length rs) ≡ true) × (◌≡◌ {A = Result Opened ℕ} (Err w.next) (Ok o))) ⊎ ((ltb w.next (length rs) ≡ false) × (◌≡◌ {A = Result Opened ℕ} (Ok (record { base = B; mark = mark_at rs B p; claims = w.claims })) (Ok o)))
+      finish : (p : ℕ) → p ≡ terms.q → Stood signer_of (stable_fits accepts terms) terms.n terms.q 0 0 rs p → B ≤ 1000000000000 → (s : ℕ) → checkpoints accepts terms rs B p ≡ Ok s → (w : Found (List Claim)) → numbers accepts terms rs (take terms.q rs) 32 (B + 1) s [] ≡ Ok w
+          → ((ltb w.next (length rs) ≡ true) × (◌≡◌ {A = Result Opened ℕ} (Err w.next) (Ok o))) ⊎ ((ltb w.next (length rs) ≡ false) × (◌≡◌ {A = Result Opened ℕ} (Ok (record { base = B; mark = mark_at rs B p; claims = w.value })) (Ok o)))
           → Parts o
-      finish p k st low s es w ew (inl h) = never _ o h.1
+      finish p k st low s es w ew (inl h) = absurd cc
       finish p k st low s es w ew (inr h) =
           subst Parts (ok_is _ o h.1) (record {
             stables = subst (λ z. Stood signer_of (stable_fits accepts terms) terms.n terms.q 0 0 rs z) k st;

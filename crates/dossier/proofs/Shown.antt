@@ -1,6 +1,6 @@
 -- What each part of a walk that came through shows, place by place.
 use Rattle.std.proofs.Common.{◌≡◌, ℕ, zero, suc, ◌+◌, ◌-◌, ◌<◌, ◌≤◌, Bool, true, false, cond, not, ◌&&◌, ◌||◌, eqb, ltb, ◌⊎◌, List, [], ◌∷◌, ◌++◌, length, get_or, take, drop, Some, None, Ok, Option, Result, sym, refl, ap, ◌∙◌, subst, inl, inr, arith}
-use Rattle.std.proofs.lemmas.Bool.{and_parts, eqb-true, eqb-false, ltb-true, ltb-false, cases_lt, cond_both, both_ways, cases_Bool, true≢false, and_cases, or_parts, or_cases, eq-eqb, not-true}
+use Rattle.std.proofs.lemmas.Bool.{and_parts, eqb-true, eqb-false, ltb-true, ltb-false, cases_lt, cond_both, both_ways, cases_Bool, and_cases, or_parts, or_cases, eq-eqb, not-true}
 use Rattle.std.proofs.lemmas.List.{get_or-take, get_or-drop, length-take-le, append_assoc, append-nil}
 use Rattle.std.proofs.ByRecursion.{All-get_or}
 use Rattle.std.specs.List.{AllByRecursion}
@@ -16,11 +16,9 @@ use Rattle.group.proofs.Groups.{stood}
 use Rattle.dossier.specs.declared.parts.Terms.{Terms}
 use Rattle.dossier.specs.declared.parts.Claim.{Claim}
 use Rattle.dossier.specs.declared.tally.Tally.{Tally}
-use Rattle.dossier.specs.declared.tally.Helds.{Helds}
 use Rattle.dossier.specs.declared.tally.Found.{Found}
-use Rattle.dossier.specs.declared.tally.Span.{Span}
 use Rattle.dossier.specs.Walk.{onward, or_fault, no_claim, blank, asked, last_asked, tallied, held_fits, held_one, helds_from, helds, found, numbers}
-use Rattle.dossier.proofs.Passage.{never, through, ok_is, went}
+use Rattle.dossier.proofs.Passage.{through, ok_is, went}
 use Rattle.wire.specs.declared.kinds.Kind.TheVariants.{Prepare, Held}
 use Rattle.wire.specs.Kinds.{same_kind}
 use Rattle.wire.proofs.KindBytes.{same_kind_is}
@@ -28,48 +26,42 @@ use Rattle.wire.specs.declared.kinds.Kind.{Kind}
 
 -- a held epoch and digest that a tally has taken in: no higher than its highest and, at that and without a clash, of its digest
 abbrev pub Agrees : ℕ → DigestValue → Tally → Type 0
-Agrees e d c = (e ≤ c.epoch) × (e ≡ c.epoch → c.clash ≡ false → d ≡ c.digest)
-
-untrue : {A : Type 0} → ◌≡◌ {A = Bool} true false → A
-untrue e = absurd (true≢false e)
+Agrees e d c = (e ≤ c.claim.epoch) × (e ≡ c.claim.epoch → c.clash ≡ false → d ≡ c.claim.digest)
 
 tallied_new : (c : Tally) (st : Statement) → Agrees st.held st.digest (tallied c st)
 tallied_new c st =
-    cond_both {A = Tally} (ltb c.epoch st.held) (record { epoch = st.held; digest = st.digest; clash = false }) _ (Agrees st.held st.digest)
+    cond_both {A = Tally} (ltb c.claim.epoch st.held) (record { claim = record { epoch = st.held; digest = st.digest }; clash = false }) _ (Agrees st.held st.digest)
     (λ h. (omega arith, λ _ _. refl))
-    (λ h. cond_both {A = Tally} (eqb st.held c.epoch && not (same_digest st.digest c.digest)) (record { epoch = c.epoch; digest = c.digest; clash = true }) c (Agrees st.held st.digest)
-    (λ _. (omega (arith, ltb-false _ _ h), λ _ k. untrue k))
-    (λ k. (omega (arith, ltb-false _ _ h), λ e _. same (same_digest st.digest c.digest) refl (and_cases (eqb st.held c.epoch) _ k) e)))
+    (λ h. cond_both {A = Tally} (eqb st.held c.claim.epoch && not (same_digest st.digest c.claim.digest)) (record { claim = c.claim; clash = true }) c (Agrees st.held st.digest)
+    (λ _. (omega (arith, ltb-false _ _ h), λ _ k. absurd cc))
+    (λ k. (omega (arith, ltb-false _ _ h), λ e _. same (same_digest st.digest c.claim.digest) refl (and_cases (eqb st.held c.claim.epoch) _ k) e)))
   where
-    same : (b : Bool) → same_digest st.digest c.digest ≡ b → (eqb st.held c.epoch ≡ false) ⊎ (not b ≡ false) → st.held ≡ c.epoch → st.digest ≡ c.digest
+    same : (b : Bool) → same_digest st.digest c.claim.digest ≡ b → (eqb st.held c.claim.epoch ≡ false) ⊎ (not b ≡ false) → st.held ≡ c.claim.epoch → st.digest ≡ c.claim.digest
     same b k (inl h) e = absurd (eqb-false _ _ h e)
     same true k (inr h) e = same_digest_is _ _ k
-    same false k (inr h) e = untrue h
+    same false k (inr h) e = absurd cc
 
 tallied_old : (e : ℕ) (d : DigestValue) (c : Tally) (st : Statement) → Agrees e d c → Agrees e d (tallied c st)
 tallied_old e d c st a =
-    cond_both {A = Tally} (ltb c.epoch st.held) (record { epoch = st.held; digest = st.digest; clash = false }) _ (Agrees e d)
+    cond_both {A = Tally} (ltb c.claim.epoch st.held) (record { claim = record { epoch = st.held; digest = st.digest }; clash = false }) _ (Agrees e d)
     (λ h. (omega (arith, a.0, ltb-true _ _ h), λ k _. absurd (omega (arith, a.0, ltb-true _ _ h))))
-    (λ _. cond_both {A = Tally} (eqb st.held c.epoch && not (same_digest st.digest c.digest)) (record { epoch = c.epoch; digest = c.digest; clash = true }) c (Agrees e d) (λ _. (a.0, λ _ k. untrue k)) (λ _. a))
+    (λ _. cond_both {A = Tally} (eqb st.held c.claim.epoch && not (same_digest st.digest c.claim.digest)) (record { claim = c.claim; clash = true }) c (Agrees e d) (λ _. (a.0, λ _ k. absurd cc)) (λ _. a))
 
 -- and no bound is passed that both keep
-tallied_below : (m : ℕ) (c : Tally) (st : Statement) → c.epoch < m → st.held < m → (tallied c st).epoch < m
+tallied_below : (m : ℕ) (c : Tally) (st : Statement) → c.claim.epoch < m → st.held < m → (tallied c st).claim.epoch < m
 tallied_below m c st h k =
-    cond_both {A = Tally} (ltb c.epoch st.held) (record { epoch = st.held; digest = st.digest; clash = false }) _ (λ t. t.epoch < m) (λ _. k)
-    (λ _. cond_both {A = Tally} (eqb st.held c.epoch && not (same_digest st.digest c.digest)) (record { epoch = c.epoch; digest = c.digest; clash = true }) c (λ t. t.epoch < m) (λ _. h) (λ _. h))
+    cond_both {A = Tally} (ltb c.claim.epoch st.held) (record { claim = record { epoch = st.held; digest = st.digest }; clash = false }) _ (λ t. t.claim.epoch < m) (λ _. k)
+    (λ _. cond_both {A = Tally} (eqb st.held c.claim.epoch && not (same_digest st.digest c.claim.digest)) (record { claim = c.claim; clash = true }) c (λ t. t.claim.epoch < m) (λ _. h) (λ _. h))
 
 -- without an epoch there is no digest
-tallied_empty : (c : Tally) (st : Statement) → (c.epoch ≡ 0 → c.digest ≡ value_of 0) → (tallied c st).epoch ≡ 0 → (tallied c st).digest ≡ value_of 0
+tallied_empty : (c : Tally) (st : Statement) → (c.claim.epoch ≡ 0 → c.claim.digest ≡ value_of 0) → (tallied c st).claim.epoch ≡ 0 → (tallied c st).claim.digest ≡ value_of 0
 tallied_empty c st a =
-    cond_both {A = Tally} (ltb c.epoch st.held) (record { epoch = st.held; digest = st.digest; clash = false }) _ (λ t. t.epoch ≡ 0 → t.digest ≡ value_of 0)
+    cond_both {A = Tally} (ltb c.claim.epoch st.held) (record { claim = record { epoch = st.held; digest = st.digest }; clash = false }) _ (λ t. t.claim.epoch ≡ 0 → t.claim.digest ≡ value_of 0)
     (λ h e. absurd (omega (arith, ltb-true _ _ h)))
-    (λ _. cond_both {A = Tally} (eqb st.held c.epoch && not (same_digest st.digest c.digest)) (record { epoch = c.epoch; digest = c.digest; clash = true }) c (λ t. t.epoch ≡ 0 → t.digest ≡ value_of 0) (λ _. a) (λ _. a))
+    (λ _. cond_both {A = Tally} (eqb st.held c.claim.epoch && not (same_digest st.digest c.claim.digest)) (record { claim = c.claim; clash = true }) c (λ t. t.claim.epoch ≡ 0 → t.claim.digest ≡ value_of 0) (λ _. a) (λ _. a))
 
 pub some_is : {A : Type 0} (a b : A) → ◌≡◌ {A = Option A} (Some a) (Some b) → a ≡ b
 some_is a b e = cc
-
-pub nothing : {A B : Type 0} (a : A) → ◌≡◌ {A = Option A} None (Some a) → B
-nothing a e = let z : ◌≡◌ {A = ℕ} 0 1 = cc in absurd (omega arith)
 
 pub record Passed {A B : Type 0} (x : Option A) (f : A → Result B ℕ) (b : B) : Type 0 where
   pub value : A
@@ -78,11 +70,11 @@ pub record Passed {A B : Type 0} (x : Option A) (f : A → Result B ℕ) (b : B)
 
 pub passed : {A B : Type 0} (x : Option A) (place : ℕ) (f : A → Result B ℕ) (b : B) → or_fault x place f ≡ Ok b → Passed x f b
 passed (Some a) place f b e = record { value = a; first = refl; second = e }
-passed None place f b e = never place b e
+passed None place f b e = absurd cc
 
 -- a claim as the tally that it came of
 abbrev pub settled : Claim → Tally
-settled c = record { epoch = c.epoch; digest = c.digest; clash = false }
+settled c = record { claim = c; clash = false }
 
 -- a record that is exactly what was asked for, and that the checker accepts
 pub exact_is : (accepts : Statement → ℕ → Bool) (kind : Kind) (e s : ℕ) (d : DigestValue) (r : Sealed) → exactly accepts kind e s d r ≡ true
@@ -140,18 +132,18 @@ module _ (accepts : Statement → ℕ → Bool) (terms : Terms) (rs : List Seale
           let d = and_parts (not (is_last && (tallied c (get_or rs place none).statement).clash)) _ b.1 in
           let same = some_is (tallied c (get_or rs place none).statement) c' k in
           record { inside = ltb-true _ _ a.0; fits = b.0; calm = subst (λ (t : Tally). not (is_last && t.clash) ≡ true) same d.0; ok = d.1; after = same }
-      go false h k = nothing c' k
+      go false h k = absurd cc
 
   -- who is asked has its held statement, which the tally has taken in
   abbrev pub Answered : ℕ → Tally → Sealed → Type 0
   Answered s tally t = asked s t ≡ true → (i : ℕ) × (i < length rs) × (held_fits terms.epoch s t.statement.signer (get_or rs i none).statement ≡ true) × Agrees (get_or rs i none).statement.held (get_or rs i none).statement.digest tally
 
-  record Answers (s place : ℕ) (ts : List Sealed) (c : Tally) (g : Helds) : Type 0 where
+  record Answers (s place : ℕ) (ts : List Sealed) (c : Tally) (g : Found Tally) : Type 0 where
     covered : Covered place g.next
-    keeps : (e : ℕ) (d : DigestValue) → Agrees e d c → Agrees e d g.tally
-    empty : (c.epoch ≡ 0 → c.digest ≡ value_of 0) → g.tally.epoch ≡ 0 → g.tally.digest ≡ value_of 0
-    below : c.epoch < terms.epoch → g.tally.epoch < terms.epoch
-    each : AllByRecursion (Answered s g.tally) ts
+    keeps : (e : ℕ) (d : DigestValue) → Agrees e d c → Agrees e d g.value
+    empty : (c.claim.epoch ≡ 0 → c.claim.digest ≡ value_of 0) → g.value.claim.epoch ≡ 0 → g.value.claim.digest ≡ value_of 0
+    below : c.claim.epoch < terms.epoch → g.value.claim.epoch < terms.epoch
+    each : AllByRecursion (Answered s g.value) ts
 
   pub held_below : (s signer : ℕ) (st : Statement) → held_fits terms.epoch s signer st ≡ true → st.held < terms.epoch
   held_below s signer st h =
@@ -161,7 +153,7 @@ module _ (accepts : Statement → ℕ → Bool) (terms : Terms) (rs : List Seale
       let h₃ = and_parts (eqb st.number s) _ h₂.1 in
       ltb-true _ _ (and_parts (ltb st.held terms.epoch) _ h₃.1).0
 
-  answers : (s last j : ℕ) (c : Tally) (place : ℕ) (ts : List Sealed) (g : Helds) → helds_from accepts terms rs s last j c place ts ≡ Ok g → Answers s place ts c g
+  answers : (s last j : ℕ) (c : Tally) (place : ℕ) (ts : List Sealed) (g : Found Tally) → helds_from accepts terms rs s last j c place ts ≡ Ok g → Answers s place ts c g
   answers s last j c place [] g e =
       subst (Answers s place [] c) (ok_is _ g e) (record { covered = λ i l u h. absurd (omega arith); keeps = λ e d a. a; empty = λ a. a; below = λ h. h; each = tt })
   answers s last j c place (t ∷ ts) g e = go (went (asked s t) _ _ _ e) (λ c place. answers s last (j + 1) c place ts g)
@@ -179,11 +171,11 @@ module _ (accepts : Statement → ℕ → Bool) (terms : Terms) (rs : List Seale
           let w = ih p.value (place + 1) p.second in
           let st : Statement = (get_or rs place none).statement in
           let new = subst (Agrees st.held st.digest) o.after (tallied_new c st) in
-          let same : (tallied c (get_or rs place none).statement).epoch ≡ p.value.epoch = ap (λ (x : Tally). x.epoch) o.after in
+          let same : (tallied c (get_or rs place none).statement).claim.epoch ≡ p.value.claim.epoch = ap (λ (x : Tally). x.claim.epoch) o.after in
           record {
             covered = covers place (place + 1) g.next (λ i l u h. subst (λ k. accepts (get_or rs k none).statement (get_or rs k none).seal ≡ true) (between i l u) o.ok) w.covered;
             keeps = λ e d a. w.keeps e d (subst (Agrees e d) o.after (tallied_old e d c st a));
-            empty = λ a. w.empty (subst (λ (x : Tally). x.epoch ≡ 0 → x.digest ≡ value_of 0) o.after (tallied_empty c st a));
+            empty = λ a. w.empty (subst (λ (x : Tally). x.claim.epoch ≡ 0 → x.claim.digest ≡ value_of 0) o.after (tallied_empty c st a));
             below = λ k. w.below (omega (arith, same, tallied_below terms.epoch c (get_or rs place none).statement k (held_below s t.statement.signer (get_or rs place none).statement o.fits)));
             each = ((λ _. (place, o.inside, o.fits, w.keeps st.held st.digest new)), w.each);
           }
@@ -202,8 +194,8 @@ module _ (accepts : Statement → ℕ → Bool) (terms : Terms) (rs : List Seale
       let a = or_parts (asked s t) (some_asked s ts) h in
       last_stays s (j + 1) (cond (asked s t) j l) ts a.1 ∙ ap (λ b. cond b j l) a.0
 
-  still : (s last j : ℕ) (c : Tally) (place : ℕ) (ts : List Sealed) (g : Helds) → some_asked s ts ≡ false → helds_from accepts terms rs s last j c place ts ≡ Ok g → c ≡ g.tally
-  still s last j c place [] g h e = ap (λ (x : Helds). x.tally) (ok_is (record { tally = c; next = place }) g e)
+  still : (s last j : ℕ) (c : Tally) (place : ℕ) (ts : List Sealed) (g : Found Tally) → some_asked s ts ≡ false → helds_from accepts terms rs s last j c place ts ≡ Ok g → c ≡ g.value
+  still s last j c place [] g h e = ap (λ (x : Found Tally). x.value) (ok_is (record { value = c; next = place }) g e)
   still s last j c place (t ∷ ts) g h e =
       let a = or_parts (asked s t) (some_asked s ts) h in
       go a.0 (went (asked s t) _ _ _ e) (still s last (j + 1) c place ts g a.1)
@@ -211,27 +203,27 @@ module _ (accepts : Statement → ℕ → Bool) (terms : Terms) (rs : List Seale
       go : asked s t ≡ false
           → ((asked s t ≡ true) × (or_fault (held_one accepts terms rs s t.statement.signer (eqb j last) c place) place (λ c'. helds_from accepts terms rs s last (j + 1) c' (place + 1) ts) ≡ Ok g))
           ⊎ ((asked s t ≡ false) × (helds_from accepts terms rs s last (j + 1) c place ts ≡ Ok g))
-          → (helds_from accepts terms rs s last (j + 1) c place ts ≡ Ok g → c ≡ g.tally) → c ≡ g.tally
+          → (helds_from accepts terms rs s last (j + 1) c place ts ≡ Ok g → c ≡ g.value) → c ≡ g.value
       go a (inl k) ih = absurd (both_ways (asked s t) a k.0)
       go a (inr k) ih = ih k.1
 
   calm_of : (b x : Bool) → b ≡ true → not (b && x) ≡ true → x ≡ false
   calm_of true x e h = not-true x h
-  calm_of false x e h = untrue (sym e)
+  calm_of false x e h = absurd cc
 
   -- nobody clashed at the highest
-  calmed : (s j l : ℕ) (c : Tally) (place : ℕ) (ts : List Sealed) (g : Helds) → some_asked s ts ≡ true → helds_from accepts terms rs s (last_asked s j l ts) j c place ts ≡ Ok g → g.tally.clash ≡ false
-  calmed s j l c place [] g h e = untrue (sym h)
+  calmed : (s j l : ℕ) (c : Tally) (place : ℕ) (ts : List Sealed) (g : Found Tally) → some_asked s ts ≡ true → helds_from accepts terms rs s (last_asked s j l ts) j c place ts ≡ Ok g → g.value.clash ≡ false
+  calmed s j l c place [] g h e = absurd cc
   calmed s j l c place (t ∷ ts) g h e = go (went (asked s t) _ _ _ e) (cases_Bool (some_asked s ts)) (λ c place. calmed s (j + 1) (cond (asked s t) j l) c place ts g)
     where
       go : ((asked s t ≡ true) × (or_fault (held_one accepts terms rs s t.statement.signer (eqb j (last_asked s (j + 1) (cond (asked s t) j l) ts)) c place) place (λ c'. helds_from accepts terms rs s (last_asked s (j + 1) (cond (asked s t) j l) ts) (j + 1) c' (place + 1) ts) ≡ Ok g))
           ⊎ ((asked s t ≡ false) × (helds_from accepts terms rs s (last_asked s (j + 1) (cond (asked s t) j l) ts) (j + 1) c place ts ≡ Ok g))
           → (some_asked s ts ≡ true) ⊎ (some_asked s ts ≡ false)
-          → ((c : Tally) (place : ℕ) → some_asked s ts ≡ true → helds_from accepts terms rs s (last_asked s (j + 1) (cond (asked s t) j l) ts) (j + 1) c place ts ≡ Ok g → g.tally.clash ≡ false)
-          → g.tally.clash ≡ false
+          → ((c : Tally) (place : ℕ) → some_asked s ts ≡ true → helds_from accepts terms rs s (last_asked s (j + 1) (cond (asked s t) j l) ts) (j + 1) c place ts ≡ Ok g → g.value.clash ≡ false)
+          → g.value.clash ≡ false
       go (inr k) m ih = rest (or_cases (asked s t) (some_asked s ts) h)
         where
-          rest : (asked s t ≡ true) ⊎ (some_asked s ts ≡ true) → g.tally.clash ≡ false
+          rest : (asked s t ≡ true) ⊎ (some_asked s ts ≡ true) → g.value.clash ≡ false
           rest (inl a) = absurd (both_ways (asked s t) k.0 a)
           rest (inr a) = ih c place a k.1
       go (inl k) (inl more) ih = let p = passed (held_one accepts terms rs s t.statement.signer (eqb j (last_asked s (j + 1) (cond (asked s t) j l) ts)) c place) place (λ c'. helds_from accepts terms rs s (last_asked s (j + 1) (cond (asked s t) j l) ts) (j + 1) c' (place + 1) ts) g k.1 in ih p.value (place + 1) more p.second
@@ -241,10 +233,10 @@ module _ (accepts : Statement → ℕ → Bool) (terms : Terms) (rs : List Seale
           let here = eq-eqb j (last_asked s (j + 1) (cond (asked s t) j l) ts) (sym (last_stays s (j + 1) (cond (asked s t) j l) ts none_left ∙ ap (λ b. cond b j l) k.0)) in
           ap (λ (x : Tally). x.clash) (sym (still s (last_asked s (j + 1) (cond (asked s t) j l) ts) (j + 1) p.value (place + 1) ts g none_left p.second)) ∙ calm_of (eqb j (last_asked s (j + 1) (cond (asked s t) j l) ts)) p.value.clash here o.calm
 
-  calm : (s place : ℕ) (ts : List Sealed) (g : Helds) → helds accepts terms rs s place ts ≡ Ok g → g.tally.clash ≡ false
+  calm : (s place : ℕ) (ts : List Sealed) (g : Found Tally) → helds accepts terms rs s place ts ≡ Ok g → g.value.clash ≡ false
   calm s place ts g e = go (cases_Bool (some_asked s ts))
     where
-      go : (some_asked s ts ≡ true) ⊎ (some_asked s ts ≡ false) → g.tally.clash ≡ false
+      go : (some_asked s ts ≡ true) ⊎ (some_asked s ts ≡ false) → g.value.clash ≡ false
       go (inl h) = calmed s 0 0 blank place ts g h e
       go (inr h) = ap (λ (x : Tally). x.clash) (sym (still s (last_asked s 0 0 ts) 0 blank place ts g h e))
 
@@ -255,31 +247,31 @@ module _ (accepts : Statement → ℕ → Bool) (terms : Terms) (rs : List Seale
     pub below : 1 ≤ terms.epoch → c.epoch < terms.epoch
     pub backed : 1 ≤ c.epoch → (p : ℕ) × (p' : ℕ) × Stood signer_of (exactly accepts Prepare c.epoch s c.digest) terms.n terms.q p 0 (drop p rs) p'
 
-  record Shown (ts : List Sealed) (s place : ℕ) (f : Found) : Type 0 where
+  record Shown (ts : List Sealed) (s place : ℕ) (f : Found Claim) : Type 0 where
     covered : Covered place f.next
-    claimed : Claimed ts s f.claim
+    claimed : Claimed ts s f.value
 
-  shown : (ts : List Sealed) (s place : ℕ) (f : Found) → found accepts terms rs ts s place ≡ Ok f → Shown ts s place f
+  shown : (ts : List Sealed) (s place : ℕ) (f : Found Claim) → found accepts terms rs ts s place ≡ Ok f → Shown ts s place f
   shown ts s place f e =
       let a = through _ _ f e in
       let w = answers s _ 0 _ place ts a.value a.first in
-      go a.value w (calm s place ts a.value a.first) (went (eqb a.value.tally.epoch 0) _ _ _ a.second)
+      go a.value w (calm s place ts a.value a.first) (went (eqb a.value.value.claim.epoch 0) _ _ _ a.second)
     where
-      go : (g : Helds) → Answers s place ts blank g → g.tally.clash ≡ false
-          → ((eqb g.tally.epoch 0 ≡ true) × (◌≡◌ {A = Result Found ℕ} (Ok (record { claim = record { epoch = g.tally.epoch; digest = g.tally.digest }; next = g.next })) (Ok f)))
-          ⊎ ((eqb g.tally.epoch 0 ≡ false) × (onward (grouped signer_of (exactly accepts Prepare g.tally.epoch s g.tally.digest) terms.n terms.q g.next 0 (drop g.next rs)) (λ p. Ok (record { claim = record { epoch = g.tally.epoch; digest = g.tally.digest }; next = p })) ≡ Ok f))
+      go : (g : Found Tally) → Answers s place ts blank g → g.value.clash ≡ false
+          → ((eqb g.value.claim.epoch 0 ≡ true) × (◌≡◌ {A = Result (Found Claim) ℕ} (Ok (record { value = g.value.claim; next = g.next })) (Ok f)))
+          ⊎ ((eqb g.value.claim.epoch 0 ≡ false) × (onward (grouped signer_of (exactly accepts Prepare g.value.claim.epoch s g.value.claim.digest) terms.n terms.q g.next 0 (drop g.next rs)) (λ p. Ok (record { value = g.value.claim; next = p })) ≡ Ok f))
           → Shown ts s place f
       go g w calm-is (inl h) =
           subst (Shown ts s place) (ok_is _ f h.1) (record {
             covered = w.covered;
-            claimed = record { each = subst (λ z. AllByRecursion (Answered s z) ts) (λ i. record { epoch = g.tally.epoch; digest = g.tally.digest; clash = calm-is i }) w.each; empty = w.empty (λ _. refl); below = λ k. w.below (omega arith); backed = λ k. absurd (omega (arith, eqb-true _ _ h.0)) };
+            claimed = record { each = subst (λ z. AllByRecursion (Answered s z) ts) (λ i. record { claim = g.value.claim; clash = calm-is i }) w.each; empty = w.empty (λ _. refl); below = λ k. w.below (omega arith); backed = λ k. absurd (omega (arith, eqb-true _ _ h.0)) };
           })
       go g w calm-is (inr h) =
           let b = through _ _ f h.1 in
-          let st = stood signer_of (exactly accepts Prepare g.tally.epoch s g.tally.digest) terms.n terms.q g.next 0 (drop g.next rs) b.value b.first in
+          let st = stood signer_of (exactly accepts Prepare g.value.claim.epoch s g.value.claim.digest) terms.n terms.q g.next 0 (drop g.next rs) b.value b.first in
           subst (Shown ts s place) (ok_is _ f b.second) (record {
-            covered = covers place g.next b.value w.covered (group_covers (exactly accepts Prepare g.tally.epoch s g.tally.digest) terms.q g.next b.value (λ r k. (exact_is accepts Prepare _ s _ r k).1) st);
-            claimed = record { each = subst (λ z. AllByRecursion (Answered s z) ts) (λ i. record { epoch = g.tally.epoch; digest = g.tally.digest; clash = calm-is i }) w.each; empty = w.empty (λ _. refl); below = λ k. w.below (omega arith); backed = λ k. (g.next, b.value, st) };
+            covered = covers place g.next b.value w.covered (group_covers (exactly accepts Prepare g.value.claim.epoch s g.value.claim.digest) terms.q g.next b.value (λ r k. (exact_is accepts Prepare _ s _ r k).1) st);
+            claimed = record { each = subst (λ z. AllByRecursion (Answered s z) ts) (λ i. record { claim = g.value.claim; clash = calm-is i }) w.each; empty = w.empty (λ _. refl); below = λ k. w.below (omega arith); backed = λ k. (g.next, b.value, st) };
           })
 
   -- the claims of the numbers from s on
@@ -287,14 +279,14 @@ module _ (accepts : Statement → ℕ → Bool) (terms : Terms) (rs : List Seale
   Row ts s [] = Unit {0}
   Row ts s (c ∷ cs) = Claimed ts s c × Row ts (s + 1) cs
 
-  pub record Counted (ts : List Sealed) (k s place : ℕ) (cs : List Claim) (w : Span) : Type 0 where
+  pub record Counted (ts : List Sealed) (k s place : ℕ) (cs : List Claim) (w : Found (List Claim)) : Type 0 where
     pub ds : List Claim
-    pub is : w.claims ≡ cs ++ ds
+    pub is : w.value ≡ cs ++ ds
     pub size : length ds ≡ k
     pub row : Row ts s ds
     pub covered : Covered place w.next
 
-  pub counted : (ts : List Sealed) (k s place : ℕ) (cs : List Claim) (w : Span) → numbers accepts terms rs ts k s place cs ≡ Ok w → Counted ts k s place cs w
+  pub counted : (ts : List Sealed) (k s place : ℕ) (cs : List Claim) (w : Found (List Claim)) → numbers accepts terms rs ts k s place cs ≡ Ok w → Counted ts k s place cs w
   unfolding numbers
   counted ts zero s place cs w e =
       subst (Counted ts zero s place cs) (ok_is _ w e) (record { ds = []; is = sym (append-nil cs); size = refl; row = tt; covered = λ i l u h. absurd (omega arith) })
@@ -302,8 +294,8 @@ module _ (accepts : Statement → ℕ → Bool) (terms : Terms) (rs : List Seale
       let a = through _ _ w e in
       let f = a.value in
       let x = shown ts s place f a.first in
-      let y = counted ts k (s + 1) f.next (cs ++ f.claim ∷ []) w a.second in
-      record { ds = f.claim ∷ y.ds; is = y.is ∙ append_assoc cs (f.claim ∷ []) y.ds; size = ap suc y.size; row = (x.claimed, y.row); covered = covers place f.next w.next x.covered y.covered }
+      let y = counted ts k (s + 1) f.next (cs ++ f.value ∷ []) w a.second in
+      record { ds = f.value ∷ y.ds; is = y.is ∙ append_assoc cs (f.value ∷ []) y.ds; size = ap suc y.size; row = (x.claimed, y.row); covered = covers place f.next w.next x.covered y.covered }
 
   -- the claim at a place of the row
   pub row_at : (ts : List Sealed) (s : ℕ) (cs : List Claim) (j : ℕ) → Row ts s cs → j < length cs → Claimed ts (s + j) (get_or cs j no_claim)

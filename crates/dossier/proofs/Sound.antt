@@ -20,7 +20,7 @@ use Rattle.dossier.specs.declared.parts.Opened.{Opened}
 use Rattle.dossier.specs.Walk.{no_claim, asked, held_fits, larger, largest, mark_at, stable_fits, walked, reach, top, chosen, checkpoint_group}
 use Rattle.dossier.specs.Laws.{prepare_by, checkpoint_by, stable_by, held_by, highest_of, digest_of, Genuine, Holds, Said, Sound, SealsHold, AllAccepted, DossierSound, Admitted}
 use Rattle.dossier.proofs.Passage.{ok_is, went, Parts, parts}
-use Rattle.dossier.proofs.Shown.{some_is, nothing, exact_is, held_below, Covered, covers, group_covers, Answered, settled, Claimed, Row, Counted, counted, row_at}
+use Rattle.dossier.proofs.Shown.{some_is, exact_is, held_below, Covered, covers, group_covers, Answered, settled, Claimed, Row, Counted, counted, row_at}
 use Rattle.dossier.proofs.Within.{walked_within}
 use Rattle.wire.specs.declared.kinds.Kind.TheVariants.{Prepare, Checkpoint, Stable, Held}
 use Rattle.wire.specs.Kinds.{same_kind}
@@ -181,7 +181,7 @@ module _ (accepts : Statement → ℕ → Bool) (terms : Terms) (honest : ℕ �
       one : (r : Sealed) → exactly accepts kind e s d r ≡ true → Fair r → honest (signer_of r) ≡ true → Issued (record { kind = kind; signer = signer_of r; epoch = e; number = s; held = 0; digest = d })
       one r k f hon = let x = exact_is accepts kind e s d r k in subst Issued x.0 (f x.1 hon)
 
-  module _ (fair : AllByRecursion Fair rs) (w : Parts accepts terms rs o) (k : Counted accepts terms rs (take terms.q rs) 32 (o.base + 1) w.start [] (record { claims = o.claims; next = w.end })) where
+  module _ (fair : AllByRecursion Fair rs) (w : Parts accepts terms rs o) (k : Counted accepts terms rs (take terms.q rs) 32 (o.base + 1) w.start [] (record { value = o.claims; next = w.end })) where
     long : length o.claims ≡ 32
     long = ap length k.is ∙ k.size
 
@@ -243,7 +243,7 @@ module _ (accepts : Statement → ℕ → Bool) (terms : Terms) (honest : ℕ �
     only s d e = go (went (ltb o.base s && leb s (top o)) _ _ _ e)
       where
         go : (((ltb o.base s && leb s (top o)) ≡ true) × (◌≡◌ {A = Option DigestValue} (Some (digest_of o s)) (Some d))) ⊎ (((ltb o.base s && leb s (top o)) ≡ false) × (◌≡◌ {A = Option DigestValue} None (Some d))) → (o.base < s) × (s ≤ top o) × (d ≡ digest_of o s)
-        go (inr h) = nothing d h.1
+        go (inr h) = absurd cc
         go (inl h) =
             let a = and_parts (ltb o.base s) (leb s (top o)) h.0 in
             (ltb-true _ _ a.0, leb-true _ _ a.1, sym (some_is (digest_of o s) d h.1))

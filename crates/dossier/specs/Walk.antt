@@ -12,9 +12,7 @@ use Rattle.dossier.specs.declared.parts.Terms.{Terms}
 use Rattle.dossier.specs.declared.parts.Claim.{Claim}
 use Rattle.dossier.specs.declared.parts.Opened.{Opened}
 use Rattle.dossier.specs.declared.tally.Tally.{Tally}
-use Rattle.dossier.specs.declared.tally.Helds.{Helds}
 use Rattle.dossier.specs.declared.tally.Found.{Found}
-use Rattle.dossier.specs.declared.tally.Span.{Span}
 use Rattle.wire.specs.declared.kinds.Kind.TheVariants.{Prepare, Checkpoint, Stable, Held}
 use Rattle.wire.specs.Kinds.{same_kind}
 
@@ -54,15 +52,15 @@ last_asked s j last (t ∷ ts) = last_asked s (j + 1) (cond (asked s t) j last) 
 
 -- nothing held
 abbrev pub blank : Tally
-blank = record { epoch = 0; digest = value_of 0; clash = false }
+blank = record { claim = record { epoch = 0; digest = value_of 0 }; clash = false }
 
 -- one more held statement: a higher epoch begins anew, and another digest at the highest clashes
 abbrev pub tallied : Tally → Statement → Tally
 tallied c st =
-    cond (nat_lt c.epoch st.held)
-    (record { epoch = st.held; digest = st.digest; clash = false })
-    (cond (st.held == c.epoch && not (same_digest st.digest c.digest))
-    (record { epoch = c.epoch; digest = c.digest; clash = true })
+    cond (nat_lt c.claim.epoch st.held)
+    (record { claim = record { epoch = st.held; digest = st.digest }; clash = false })
+    (cond (st.held == c.claim.epoch && not (same_digest st.digest c.claim.digest))
+    (record { claim = c.claim; clash = true })
     c)
 
 -- a held statement of a signer for s and the new epoch, its seal aside: it holds an epoch below the new one, or none and digest 0
@@ -96,30 +94,30 @@ module _ (accepts : Statement → ℕ → Bool) (terms : Terms) where
         None
 
     -- the held statements for s of the signers of the stable statements from j on, of which the last asked is at last
-    abbrev pub helds_from : ℕ → ℕ → ℕ → Tally → ℕ → List Sealed → Result Helds ℕ
-    helds_from s last j c place [] = Ok (record { tally = c; next = place })
+    abbrev pub helds_from : ℕ → ℕ → ℕ → Tally → ℕ → List Sealed → Result (Found Tally) ℕ
+    helds_from s last j c place [] = Ok (record { value = c; next = place })
     helds_from s last j c place (t ∷ ts) =
         cond (asked s t)
         (or_fault (held_one s t.statement.signer (j == last) c place) place (λ c'. helds_from s last (j + 1) c' (place + 1) ts))
         (helds_from s last (j + 1) c place ts)
 
-    abbrev pub helds : ℕ → ℕ → List Sealed → Result Helds ℕ
+    abbrev pub helds : ℕ → ℕ → List Sealed → Result (Found Tally) ℕ
     helds s place ts = helds_from s (last_asked s 0 0 ts) 0 blank place ts
 
     -- THE WHOLE
 
     -- the claim of s from the records at a place on: held statements and, where the highest epoch is not 0, q prepares of it
-    abbrev pub found : List Sealed → ℕ → ℕ → Result Found ℕ
+    abbrev pub found : List Sealed → ℕ → ℕ → Result (Found Claim) ℕ
     found ts s place = onward (helds s place ts) (λ g.
-        let claim : Claim = record { epoch = g.tally.epoch; digest = g.tally.digest } in
+        let claim : Claim = g.value.claim in
         cond (claim.epoch == 0)
-        (Ok (record { claim = claim; next = g.next }))
-        (onward (quorum_from (exactly accepts Prepare claim.epoch s claim.digest) g.next) (λ p. Ok (record { claim = claim; next = p }))))
+        (Ok (record { value = claim; next = g.next }))
+        (onward (quorum_from (exactly accepts Prepare claim.epoch s claim.digest) g.next) (λ p. Ok (record { value = claim; next = p }))))
 
     -- the claims of k numbers from s on, after those that were found
-    unfoldable pub numbers : List Sealed → ℕ → ℕ → ℕ → List Claim → Result Span ℕ
-    numbers ts zero s place cs = Ok (record { claims = cs; next = place })
-    numbers ts (suc k) s place cs = onward (found ts s place) (λ f. numbers ts k (s + 1) f.next (cs ++ f.claim ∷ []))
+    unfoldable pub numbers : List Sealed → ℕ → ℕ → ℕ → List Claim → Result (Found (List Claim)) ℕ
+    numbers ts zero s place cs = Ok (record { value = cs; next = place })
+    numbers ts (suc k) s place cs = onward (found ts s place) (λ f. numbers ts k (s + 1) f.next (cs ++ f.value ∷ []))
 
     -- the place after q checkpoints for the base, none for base 0
     abbrev pub checkpoints : ℕ → ℕ → Result ℕ ℕ
@@ -128,7 +126,7 @@ module _ (accepts : Statement → ℕ → Bool) (terms : Terms) where
     -- what follows the stable statements, which end at a place: nothing may come after it
     abbrev pub after_stables : ℕ → ℕ → Result Opened ℕ
     after_stables base place = onward (checkpoints base place) (λ p. onward (numbers (take terms.q rs) 32 (base + 1) p []) (λ w.
-        cond (nat_lt w.next (length rs)) (Err w.next) (Ok (record { base = base; mark = mark_at rs base place; claims = w.claims }))))
+        cond (nat_lt w.next (length rs)) (Err w.next) (Ok (record { base = base; mark = mark_at rs base place; claims = w.value }))))
 
     abbrev pub walked : Result Opened ℕ
     walked = onward (quorum_from stable_fits 0) (λ p. after_stables (largest (take terms.q rs)) p)

@@ -2,7 +2,8 @@
 ghost use Rattle.std.specs.Prelude.{◌≡◌};
 ghost use Rattle.dossier.specs.Walk.{asked, last_asked, tallied, held_fits, held_one, helds};
 
-use crate::tally::{Helds, Tally};
+use crate::parts::{Claim, NO_CLAIM};
+use crate::tally::{Found, Tally};
 use crate::target::Target;
 use seal::checker::SealChecker;
 use wire::kinds::Kind;
@@ -20,13 +21,7 @@ fn is_asked(t: &Sealed, s: u64) -> bool
 fn last_place(stables: &[Sealed], s: u64) -> usize
     ensures { result ≡ last_asked s 0 0 stables.now }
 {
-    let mut last = 0;
-    for (j, t) in stables.iter().enumerate() {
-        if is_asked(t, s) {
-            last = j;
-        }
-    }
-    last
+    stables.iter().rposition(|t| is_asked(t, s)).unwrap_or(0)
 }
 
 impl Tally {
@@ -35,38 +30,28 @@ impl Tally {
     fn with(&self, st: &Statement) -> Tally
         ensures { result ≡ tallied self.now st.now }
     {
-        if self.epoch < st.held {
-            return Tally {
+        if self.claim.epoch < st.held {
+            let claim = Claim {
                 epoch: st.held,
                 digest: st.digest,
+            };
+            return Tally {
+                claim,
                 clash: false,
             };
         }
-        if st.held == self.epoch && st.digest != self.digest {
+        if st.held == self.claim.epoch && st.digest != self.claim.digest {
             return Tally {
-                epoch: self.epoch,
-                digest: self.digest,
                 clash: true,
+                ..*self
             };
         }
         *self
     }
 }
 
-// Whether a statement is the held statement of a signer for s and the new epoch, its seal aside.
-#[tactic(auto, unfolding(wire::specs::Values::same_digest))]
-fn fits_held(st: &Statement, epoch: u32, s: u64, signer: u8) -> bool
-    ensures { result ≡ held_fits epoch s signer st.now }
-{
-    st.kind == Kind::Held
-        && st.signer == signer
-        && st.epoch == epoch
-        && st.number == s
-        && st.held < epoch
-        && (st.held != 0 || st.digest == DigestValue::from(0))
-}
-
-// A record that is looked for: a number, its signer, and whether it is the last of its number.
+// A held statement that is looked for: its number, its signer, and whether it is the last of that
+// number.
 #[derive(Clone, Copy)]
 struct Sought {
     pub number: u64,
@@ -74,26 +59,32 @@ struct Sought {
     pub is_last: bool,
 }
 
+impl Sought {
+    // Whether a statement is the one for the new epoch, its seal aside.
+    #[tactic(auto, unfolding(wire::specs::Values::same_digest))]
+    fn fits(&self, st: &Statement, epoch: u32) -> bool
+        ensures { result ≡ held_fits epoch self.now.number self.now.signer st.now }
+    {
+        st.kind == Kind::Held
+            && st.signer == self.signer
+            && st.epoch == epoch
+            && st.number == self.number
+            && st.held < epoch
+            && (st.held != 0 || st.digest == DigestValue::from(0))
+    }
+}
+
 impl<C: SealChecker> Target<'_, C> {
     // The tally after the held statement at a place, or None where it is at fault or missing.
     fn held(&self, records: &[Sealed], place: usize, sought: Sought, tally: &Tally) -> Option<Tally>
         ensures { result ≡ held_one (C.accepts self.now.checker.now) self.now.terms records.now sought.number sought.signer sought.is_last tally.now place }
     {
-        if place >= records.len() {
-            return None;
-        }
-        let r = records[place];
-        if !fits_held(&r.statement, self.terms.epoch, sought.number, sought.signer) {
-            return None;
-        }
+        let r = records.get(place)?;
         let after = tally.with(&r.statement);
-        if sought.is_last && after.clash {
-            return None;
-        }
-        if !self.checker.genuine(&r.statement, r.seal) {
-            return None;
-        }
-        Some(after)
+        let stands = sought.fits(&r.statement, self.terms.epoch)
+            && !(sought.is_last && after.clash)
+            && self.checker.genuine(&r.statement, r.seal);
+        stands.then_some(after)
     }
 
     // The held statements for s, of every signer that is asked, in the order of the stable ones.
@@ -103,13 +94,12 @@ impl<C: SealChecker> Target<'_, C> {
         stables: &[Sealed],
         s: u64,
         place: usize,
-    ) -> Result<Helds, usize>
+    ) -> Result<Found<Tally>, usize>
         ensures { result ≡ helds (C.accepts self.now.checker.now) self.now.terms records.now s place stables.now }
     {
         let last = last_place(stables, s);
         let mut tally = Tally {
-            epoch: 0,
-            digest: DigestValue::from(0),
+            claim: NO_CLAIM,
             clash: false,
         };
         let mut next = place;
@@ -120,15 +110,10 @@ impl<C: SealChecker> Target<'_, C> {
                     signer: t.statement.signer,
                     is_last: j == last,
                 };
-                match self.held(records, next, sought, &tally) {
-                    None => return Err(next),
-                    Some(after) => {
-                        tally = after;
-                        next += 1;
-                    }
-                }
+                tally = self.held(records, next, sought, &tally).ok_or(next)?;
+                next += 1;
             }
         }
-        Ok(Helds { tally, next })
+        Ok(Found { value: tally, next })
     }
 }

@@ -6,18 +6,14 @@ use crate::parts::{Claim, Opened};
 use wire::records::{DigestValue, Sealed};
 
 // How many of the claims reach up to the last with an epoch above 0.
-fn reach_of(claims: &[Claim]) -> u64
-    requires { length claims.now ≤ 32 }
+fn reach_of(claims: &[Claim]) -> usize
     ensures exact { result ≡ reach 0 0 claims.now }
-    ensures few { result ≤ 32 }
+    ensures within { result ≤ length claims.now }
 {
-    let mut last = 0;
-    for (i, c) in claims.iter().enumerate() {
-        if c.epoch > 0 {
-            last = i as u64 + 1;
-        }
-    }
-    last
+    claims
+        .iter()
+        .rposition(|c| c.epoch > 0)
+        .map_or(0, |i| i + 1)
 }
 
 impl Opened {
@@ -27,22 +23,16 @@ impl Opened {
         ensures exact { result ≡ min (top self.now) 18446744073709551615 }
         ensures low { self.now.base ≤ 1000000000000 → result ≡ top self.now }
     {
-        self.base.saturating_add(reach_of(&self.claims))
+        self.base.saturating_add(reach_of(&self.claims) as u64)
     }
 
     // The digest chosen for a number, or None where it is free.
     pub fn chosen(&self, number: u64) -> Option<DigestValue>
         ensures { result ≡ chosen self.now number }
     {
-        if number <= self.base {
-            return None;
-        }
-        let above = number - self.base;
-        if above > reach_of(&self.claims) {
-            return None;
-        }
-        let i = above as usize - 1;
-        Some(self.claims[i].digest)
+        let above = number.checked_sub(self.base)?.checked_sub(1)?;
+        let reached = &self.claims[..reach_of(&self.claims)];
+        reached.get(above as usize).map(|c| c.digest)
     }
 
     // The checkpoints of the base in the dossier's records, none for base 0.
@@ -50,10 +40,9 @@ impl Opened {
         ensures { result.now ≡ checkpoint_group q records.now self.now }
     {
         if self.base == 0 {
-            return &records[0..0];
+            return &[];
         }
-        let start = q.min(records.len());
-        let end = start + q.min(records.len() - start);
-        &records[start..end]
+        let rest = records.get(q..).unwrap_or(&[]);
+        rest.get(..q).unwrap_or(rest)
     }
 }

@@ -2,14 +2,12 @@
 ghost use Rattle.std.specs.Prelude.{◌≡◌};
 ghost use Rattle.dossier.specs.Walk.{stable_fits, largest};
 
+use crate::parts::LAST;
 use crate::target::Target;
 use group::rules::Rule;
 use seal::checker::SealChecker;
 use wire::kinds::Kind;
 use wire::records::{DigestValue, Sealed};
-
-// The largest number there is.
-const LAST: u64 = 1_000_000_000_000;
 
 // A stable statement for the new epoch; its seal is tried last.
 impl<'a, C: SealChecker> Rule<Sealed> for Target<'a, C> {
@@ -32,11 +30,7 @@ impl<'a, C: SealChecker> Rule<Sealed> for Target<'a, C> {
 pub(crate) fn base_of(stables: &[Sealed]) -> u64
     ensures { result ≡ largest stables.now }
 {
-    let mut base = 0;
-    for t in stables {
-        if base < t.statement.number {
-            base = t.statement.number;
-        }
-    }
-    base
+    stables
+        .iter()
+        .fold(0, |base, t| base.max(t.statement.number))
 }

@@ -1,33 +1,19 @@
 // What the walk has found so far, part by part.
 use crate::parts::Claim;
-use wire::records::DigestValue;
 
-// The held statements of a number so far: the highest epoch, the digest that was first named with
-// it, and whether another digest was named with it too.
+// The held statements of a number so far: the highest claim, with the digest that was first named,
+// and whether another digest was named with its epoch too. An Option in place of the flag would be
+// opened for the claim at the end, where it is never None.
 #[derive(Clone, Copy)]
 pub struct Tally {
-    pub epoch: u32,
-    pub digest: DigestValue,
+    pub claim: Claim,
     pub clash: bool,
 }
 
-// The held statements of a number, and the place after them.
+// What a part of the dossier says, and the place after its records. A place goes in and comes out,
+// as in the definitions: with a cursor that moves, each contract would tell its old place from its new.
 #[derive(Clone, Copy)]
-pub struct Helds {
-    pub tally: Tally,
-    pub next: usize,
-}
-
-// The claim of a number, and the place after its records.
-#[derive(Clone, Copy)]
-pub struct Found {
-    pub claim: Claim,
-    pub next: usize,
-}
-
-// The claims of 32 numbers, and the place after their records.
-#[derive(Clone, Copy)]
-pub struct Span {
-    pub claims: [Claim; 32],
+pub struct Found<T> {
+    pub value: T,
     pub next: usize,
 }

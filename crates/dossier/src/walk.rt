@@ -1,11 +1,11 @@
 // The walk over a dossier.
-ghost use Rattle.std.specs.Prelude.{◌≡◌, ◌+◌, ◌≤◌, [], length, take, MatchResult};
-ghost use Rattle.dossier.specs.Walk.{found, numbers, mark_at, checkpoints, largest, after_stables, walked};
+ghost use Rattle.std.specs.Prelude.{◌≡◌, ◌+◌, ◌≤◌, [], length, take, Ok, MatchResult};
+ghost use Rattle.dossier.specs.Walk.{onward, found, numbers, mark_at, checkpoints, largest, after_stables, walked};
 ghost use Rattle.dossier.specs.Laws.{Admitted};
 
-use crate::parts::{Claim, Opened};
+use crate::parts::{Claim, NO_CLAIM, Opened};
 use crate::stable::base_of;
-use crate::tally::{Found, Span};
+use crate::tally::Found;
 use crate::target::Target;
 use group::check::group;
 use group::rules::Exact;
@@ -13,19 +13,8 @@ use seal::checker::SealChecker;
 use wire::kinds::Kind;
 use wire::records::{DigestValue, Sealed};
 
-// The mark of the checkpoints at a place, 0 for base 0.
-fn mark_of(records: &[Sealed], base: u64, place: usize) -> DigestValue
-    ensures { result ≡ mark_at records.now base place }
-{
-    if base == 0 {
-        return DigestValue::from(0);
-    }
-    if place >= records.len() {
-        return DigestValue::from(0);
-    }
-    records[place].statement.digest
-}
-
+// The records and the stable statements are handed on, and are no struct of their own: each clause
+// would name them, the checker and the terms by a longer path.
 impl<C: SealChecker> Target<'_, C> {
     // The claim of a number, and the place after its records.
     fn number(
@@ -34,17 +23,14 @@ impl<C: SealChecker> Target<'_, C> {
         stables: &[Sealed],
         s: u64,
         place: usize,
-    ) -> Result<Found, usize>
+    ) -> Result<Found<Claim>, usize>
         ensures { result ≡ found (C.accepts self.now.checker.now) self.now.terms records.now stables.now s place }
     {
         let helds = self.held_group(records, stables, s, place)?;
-        let claim = Claim {
-            epoch: helds.tally.epoch,
-            digest: helds.tally.digest,
-        };
+        let claim = helds.value.claim;
         if claim.epoch == 0 {
             return Ok(Found {
-                claim,
+                value: claim,
                 next: helds.next,
             });
         }
@@ -56,7 +42,7 @@ impl<C: SealChecker> Target<'_, C> {
             digest: claim.digest,
         };
         let next = group(records, helds.next, self.terms.n, self.terms.q, &rule)?;
-        Ok(Found { claim, next })
+        Ok(Found { value: claim, next })
     }
 
     // The claims of the 32 numbers above the base, and the place after their records.
@@ -66,37 +52,41 @@ impl<C: SealChecker> Target<'_, C> {
         stables: &[Sealed],
         base: u64,
         place: usize,
-    ) -> Result<Span, usize>
+    ) -> Result<Found<[Claim; 32]>, usize>
         requires { base ≤ 1000000000000 }
         ensures { result ≡ numbers (C.accepts self.now.checker.now) self.now.terms records.now stables.now 32 (base + 1) place [] }
     {
-        let mut claims = [Claim {
-            epoch: 0,
-            digest: DigestValue::from(0),
-        }; 32];
+        let mut claims = [NO_CLAIM; 32];
         let mut next = place;
-        for k in 0..32usize {
+        for (k, claim) in claims.iter_mut().enumerate() {
             let found = self.number(records, stables, base + 1 + k as u64, next)?;
-            claims[k] = found.claim;
+            *claim = found.value;
             next = found.next;
         }
-        Ok(Span { claims, next })
+        Ok(Found {
+            value: claims,
+            next,
+        })
     }
 
-    // The place after the checkpoints for the base, if it asks for any.
-    fn checkpoint_group(
+    // The mark of the checkpoints for the base, and the place after them; mark 0 for base 0, which
+    // has none.
+    fn marked(
         &self,
         records: &[Sealed],
         base: u64,
-        mark: DigestValue,
         place: usize,
-    ) -> Result<usize, usize>
-        requires { mark ≡ mark_at records.now base place }
-        ensures { result ≡ checkpoints (C.accepts self.now.checker.now) self.now.terms records.now base place }
+    ) -> Result<Found<DigestValue>, usize>
+        ensures { result ≡ onward (checkpoints (C.accepts self.now.checker.now) self.now.terms records.now base place) (λ p. Ok (record { value = mark_at records.now base place; next = p })) }
     {
+        let none = DigestValue::from(0);
         if base == 0 {
-            return Ok(place);
+            return Ok(Found {
+                value: none,
+                next: place,
+            });
         }
+        let mark = records.get(place).map_or(none, |r| r.statement.digest);
         let rule = Exact {
             checker: self.checker,
             kind: Kind::Checkpoint,
@@ -104,7 +94,8 @@ impl<C: SealChecker> Target<'_, C> {
             number: base,
             digest: mark,
         };
-        group(records, place, self.terms.n, self.terms.q, &rule)
+        let next = group(records, place, self.terms.n, self.terms.q, &rule)?;
+        Ok(Found { value: mark, next })
     }
 
     // What follows the stable statements, which end at a place.
@@ -112,19 +103,23 @@ impl<C: SealChecker> Target<'_, C> {
         requires { (self.now.terms.q ≤ length records.now) × (largest (take self.now.terms.q records.now) ≤ 1000000000000) }
         ensures { result ≡ after_stables (C.accepts self.now.checker.now) self.now.terms records.now (largest (take self.now.terms.q records.now)) place }
     {
-        let stables = &records[0..self.terms.q];
+        let stables = &records[..self.terms.q];
         let base = base_of(stables);
-        let mark = mark_of(records, base, place);
-        let start = self.checkpoint_group(records, base, mark, place)?;
-        let span = self.all_numbers(records, stables, base, start)?;
+        let mark = self.marked(records, base, place)?;
+        let span = self.all_numbers(records, stables, base, mark.next)?;
         if span.next < records.len() {
             return Err(span.next);
         }
-        let claims = span.claims;
-        Ok(Opened { base, mark, claims })
+        let claims = span.value;
+        Ok(Opened {
+            base,
+            mark: mark.value,
+            claims,
+        })
     }
 
     // What a dossier says, or the index of its first record at fault, missing or surplus.
+    #[tactic(auto, using(crate::proofs::Sound::judged))]
     pub fn walk(&self, records: &[Sealed]) -> Result<Opened, usize>
         ensures exact { result ≡ walked (C.accepts self.now.checker.now) self.now.terms records.now }
         ensures judged { MatchResult result (Admitted (C.accepts self.now.checker.now) self.now.terms records.now) (λ i. i ≤ length records.now) }

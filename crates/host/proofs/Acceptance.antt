@@ -15,11 +15,9 @@ use Rattle.dossier.specs.declared.parts.Terms.{Terms}
 use Rattle.dossier.specs.declared.parts.Claim.{Claim}
 use Rattle.dossier.specs.declared.parts.Opened.{Opened}
 use Rattle.dossier.specs.declared.tally.Tally.{Tally}
-use Rattle.dossier.specs.declared.tally.Helds.{Helds}
 use Rattle.dossier.specs.declared.tally.Found.{Found}
-use Rattle.dossier.specs.declared.tally.Span.{Span}
 use Rattle.dossier.specs.Walk.{onward, or_fault, largest, mark_at, last_asked, blank, tallied, held_fits, stable_fits, quorum_from, held_one, helds_from, found, numbers, checkpoints, after_stables, walked}
-use Rattle.dossier.proofs.Passage.{never, went}
+use Rattle.dossier.proofs.Passage.{went}
 use Rattle.dossier.proofs.Steps.{stables_enough}
 use Rattle.host.specs.Partings.{one_at, first_of, stable_in, held_in, claim_in, claimed_epoch, checkpoints_in, prepares_in, higher, highest}
 use Rattle.host.specs.Assembly.{base_in, at_number, at_numbers, assembled}
@@ -35,7 +33,7 @@ grouped_on names allows n place z place' least [] ys e = ap Ok (omega arith)
 grouped_on names allows n place z place' least (x ∷ xs) ys e =
     elim (went (stands names allows n least x) _ _ _ e) [
       | inl w ↦ cond-true _ _ _ w.0 ∙ grouped_on names allows n (place + 1) z (place' + 1) (names x + 1) xs ys w.1 ∙ ap Ok (omega arith)
-      | inr w ↦ never place z w.1
+      | inr w ↦ absurd cc
     ]
 
 -- the same, where the first record sets the digest
@@ -64,31 +62,31 @@ module _ (accepts : Statement → ℕ → Bool) (terms : Terms) (digests : ℕ �
 
   -- a tally is the claim of a parting, without a clash
   pub record Stands (s : ℕ) (best : List Sealed) (c : Tally) : Type 0 where
-    pub epoch : c.epoch ≡ claimed_epoch s best
-    pub digest : c.digest ≡ (claim_in s best).digest
+    pub epoch : c.claim.epoch ≡ claimed_epoch s best
+    pub digest : c.claim.digest ≡ (claim_in s best).digest
     pub clear : c.clash ≡ false
-    pub one : c.digest ≡ digests c.epoch s
+    pub one : c.claim.digest ≡ digests c.claim.epoch s
 
   stands_next : (s : ℕ) (best p : List Sealed) (c : Tally) (st : Statement) → Stands s best c → st ≡ claim_in s p → st.digest ≡ digests st.held s
       → Stands s (higher (claimed_epoch s) best p) (tallied c st)
   stands_next s best p c st w is one =
       let same : st.held ≡ claimed_epoch s p = ap (λ x. x.held) is in
-      let was : c.epoch ≡ claimed_epoch s best = w.epoch in
-      elim (cases_lt c.epoch st.held) [
+      let was : c.claim.epoch ≡ claimed_epoch s best = w.epoch in
+      elim (cases_lt c.claim.epoch st.held) [
         | inl h ↦
             let taken : higher (claimed_epoch s) best p ≡ p = cond-true _ p best (lt-ltb (claimed_epoch s best) (claimed_epoch s p) (omega arith)) in
-            let new : Tally = record { epoch = st.held; digest = st.digest; clash = false } in
-            let is_new : tallied c st ≡ new = cond-true _ _ _ (lt-ltb c.epoch st.held h) in
+            let new : Tally = record { claim = record { epoch = st.held; digest = st.digest }; clash = false } in
+            let is_new : tallied c st ≡ new = cond-true _ _ _ (lt-ltb c.claim.epoch st.held h) in
             subst (λ b. Stands s b (tallied c st)) (sym taken) (subst (λ t. Stands s p t) (sym is_new)
             (record { epoch = same; digest = ap (λ x. x.digest) is; clear = refl; one = one }))
         | inr h ↦
             let stays : higher (claimed_epoch s) best p ≡ best = cond-false _ p best (le-ltb (claimed_epoch s best) (claimed_epoch s p) (omega arith)) in
-            let no_clash : (eqb st.held c.epoch && not (same_digest st.digest c.digest)) ≡ false =
-            elim (cases_eq st.held c.epoch) [
-              | inl e ↦ and_right (eqb st.held c.epoch) _ (not_from_true _ (subst (λ d. same_digest st.digest d ≡ true) (one ∙ ap (λ n. digests n s) e ∙ sym w.one) (same_digest_self st.digest)))
-              | inr ne ↦ and_left (eqb st.held c.epoch) _ (ne_eqb st.held c.epoch ne)
+            let no_clash : (eqb st.held c.claim.epoch && not (same_digest st.digest c.claim.digest)) ≡ false =
+            elim (cases_eq st.held c.claim.epoch) [
+              | inl e ↦ and_right (eqb st.held c.claim.epoch) _ (not_from_true _ (subst (λ d. same_digest st.digest d ≡ true) (one ∙ ap (λ n. digests n s) e ∙ sym w.one) (same_digest_self st.digest)))
+              | inr ne ↦ and_left (eqb st.held c.claim.epoch) _ (ne_eqb st.held c.claim.epoch ne)
             ] in
-            let is_old : tallied c st ≡ c = cond-false _ _ _ (le-ltb c.epoch st.held h) ∙ cond-false _ _ _ no_clash in
+            let is_old : tallied c st ≡ c = cond-false _ _ _ (le-ltb c.claim.epoch st.held h) ∙ cond-false _ _ _ no_clash in
             subst (λ b. Stands s b (tallied c st)) (sym stays) (subst (λ t. Stands s best t) (sym is_old) w)
       ]
 
@@ -102,11 +100,11 @@ module _ (accepts : Statement → ℕ → Bool) (terms : Terms) (digests : ℕ �
 
   -- THE HELD STATEMENTS OF ONE NUMBER
 
-  pub record Ran (s : ℕ) (best : List Sealed) (r : Result Helds ℕ) (end : ℕ) : Type 0 where
-    pub value : Helds
+  pub record Ran (s : ℕ) (best : List Sealed) (r : Result (Found Tally) ℕ) (end : ℕ) : Type 0 where
+    pub value : Found Tally
     pub is : r ≡ Ok value
     pub next : value.next ≡ end
-    pub stands : Stands s best value.tally
+    pub stands : Stands s best value.value
 
   module _ (rs : List Sealed) (s last : ℕ) where
     run_skip : (j place : ℕ) (c : Tally) (p : List Sealed) (ps : List (List Sealed)) (best : List Sealed) → stable_in p + 32 < s
@@ -120,7 +118,7 @@ module _ (accepts : Statement → ℕ → Bool) (terms : Terms) (digests : ℕ �
           value = w.value;
           is = cond-false _ _ _ (lt-leb (s - 32) (stable_in p) (omega arith)) ∙ w.is;
           next = w.next ∙ ap (λ l. place + length (l ++ flat_map (held_in s) ps)) (sym gone);
-          stands = subst (λ b. Stands s (fold (higher (claimed_epoch s)) b ps) w.value.tally) (sym stays) w.stands;
+          stands = subst (λ b. Stands s (fold (higher (claimed_epoch s)) b ps) w.value.value) (sym stays) w.stands;
         }
 
     run_more : (j place : ℕ) (c after : Tally) (p : List Sealed) (ps : List (List Sealed)) (best : List Sealed) (r : Sealed)
@@ -140,7 +138,7 @@ module _ (accepts : Statement → ℕ → Bool) (terms : Terms) (digests : ℕ �
     helds_run : (j place : ℕ) (c : Tally) (ps : List (List Sealed)) (pre post best : List Sealed)
         → AllByRecursion T ps → AllByRecursion (λ p. stable_in p < s) ps → rs ≡ pre ++ (flat_map (held_in s) ps ++ post) → length pre ≡ place → Stands s best c
         → Ran s (fold (higher (claimed_epoch s)) best ps) (helds_from accepts terms rs s last j c place (map head_of ps)) (place + length (flat_map (held_in s) ps))
-    helds_run j place c [] pre post best all low is long w = record { value = record { tally = c; next = place }; is = refl; next = omega arith; stands = w }
+    helds_run j place c [] pre post best all low is long w = record { value = record { value = c; next = place }; is = refl; next = omega arith; stands = w }
     helds_run j place c (p ∷ ps) pre post best all low is long w =
         let rest = flat_map (held_in s) ps in
         elim (cases_lt (stable_in p + 32) s) [
@@ -163,24 +161,24 @@ module _ (accepts : Statement → ℕ → Bool) (terms : Terms) (digests : ℕ �
 
   -- ONE NUMBER, AND ALL
 
-  pub record Got (r : Result Found ℕ) (end : ℕ) : Type 0 where
-    pub value : Found
+  pub record Got (r : Result (Found Claim) ℕ) (end : ℕ) : Type 0 where
+    pub value : Found Claim
     pub is : r ≡ Ok value
     pub next : value.next ≡ end
 
-  pub record Passed (r : Result Span ℕ) (end : ℕ) : Type 0 where
-    pub value : Span
+  pub record Passed (r : Result (Found (List Claim)) ℕ) (end : ℕ) : Type 0 where
+    pub value : Found (List Claim)
     pub is : r ≡ Ok value
     pub next : value.next ≡ end
 
   module _ (at_none : (s : ℕ) → digests 0 s ≡ value_of 0) (rs : List Sealed) where
     -- what follows the held statements of s
-    abbrev after_helds : ℕ → Helds → Result Found ℕ
+    abbrev after_helds : ℕ → Found Tally → Result (Found Claim) ℕ
     after_helds s g =
-        let claim : Claim = record { epoch = g.tally.epoch; digest = g.tally.digest } in
+        let claim : Claim = g.value.claim in
         cond (eqb claim.epoch 0)
-        (Ok (record { claim = claim; next = g.next }))
-        (onward (quorum_from accepts terms rs (exactly accepts Prepare claim.epoch s claim.digest) g.next) (λ p. Ok (record { claim = claim; next = p })))
+        (Ok (record { value = claim; next = g.next }))
+        (onward (quorum_from accepts terms rs (exactly accepts Prepare claim.epoch s claim.digest) g.next) (λ p. Ok (record { value = claim; next = p })))
 
     no_claim_yet : (s : ℕ) → Stands s [] blank
     no_claim_yet s = record {
@@ -191,18 +189,18 @@ module _ (accepts : Statement → ℕ → Bool) (terms : Terms) (digests : ℕ �
     }
 
     -- nobody holds an epoch: no prepares
-    found_none : (s place : ℕ) (best hs : List Sealed) (r : Result Helds ℕ) → best ≡ [] → Ran s best r (place + length hs)
+    found_none : (s place : ℕ) (best hs : List Sealed) (r : Result (Found Tally) ℕ) → best ≡ [] → Ran s best r (place + length hs)
         → Got (onward r (after_helds s)) (place + length (hs ++ prepares_in s best))
     found_none s place best hs r nobody w =
-        let zero_claim : w.value.tally.epoch ≡ 0 = w.stands.epoch ∙ ap (claimed_epoch s) nobody ∙ ap (λ l. (first_of l).held) (held_of_none s) in
+        let zero_claim : w.value.value.claim.epoch ≡ 0 = w.stands.epoch ∙ ap (claimed_epoch s) nobody ∙ ap (λ l. (first_of l).held) (held_of_none s) in
         record {
-          value = record { claim = record { epoch = w.value.tally.epoch; digest = w.value.tally.digest }; next = w.value.next };
+          value = record { value = w.value.value.claim; next = w.value.next };
           is = ap (λ x. onward x (after_helds s)) w.is ∙ cond-true _ _ _ (eq-eqb _ _ zero_claim);
           next = w.next ∙ ap (λ l. place + length l) (sym (append-nil hs) ∙ ap (λ l. hs ++ l) (sym (ap (prepares_in s) nobody)));
         }
 
     -- the prepares of the highest claim
-    found_some : (s place : ℕ) (best hs pre post : List Sealed) (r : Result Helds ℕ) → 0 < claimed_epoch s best
+    found_some : (s place : ℕ) (best hs pre post : List Sealed) (r : Result (Found Tally) ℕ) → 0 < claimed_epoch s best
         → Quorum terms (exactly accepts Prepare (claimed_epoch s best) s (claim_in s best).digest) (prepares_in s best)
         → rs ≡ pre ++ (hs ++ (prepares_in s best ++ post)) → length pre ≡ place → Ran s best r (place + length hs)
         → Got (onward r (after_helds s)) (place + length (hs ++ prepares_in s best))
@@ -210,17 +208,17 @@ module _ (accepts : Statement → ℕ → Bool) (terms : Terms) (digests : ℕ �
         let g = w.value in
         let end = place + length hs in
         let backed = prepares_in s best in
-        let above : 0 < g.tally.epoch = omega (arith, w.stands.epoch) in
+        let above : 0 < g.value.claim.epoch = omega (arith, w.stands.epoch) in
         let left : drop end rs ≡ backed ++ post =
         ap (drop end) (is ∙ sym (append_assoc pre hs (backed ++ post))) ∙ drop_at (pre ++ hs) (backed ++ post) end (omega (arith, length-append pre hs)) in
-        let stood : quorum_from accepts terms rs (exactly accepts Prepare g.tally.epoch s g.tally.digest) g.next ≡ Ok (end + terms.q) =
+        let stood : quorum_from accepts terms rs (exactly accepts Prepare g.value.claim.epoch s g.value.claim.digest) g.next ≡ Ok (end + terms.q) =
         (λ i. grouped signer_of (exactly accepts Prepare (w.stands.epoch i) s (w.stands.digest i)) terms.n terms.q (w.next i) 0 (drop (w.next i) rs))
         ∙ ap (grouped signer_of (exactly accepts Prepare (claimed_epoch s best) s (claim_in s best).digest) terms.n terms.q end 0) left
         ∙ quorum_on _ end backed post quorum in
         record {
-          value = record { claim = record { epoch = g.tally.epoch; digest = g.tally.digest }; next = end + terms.q };
-          is = ap (λ x. onward x (after_helds s)) w.is ∙ cond-false _ _ _ (ne_eqb g.tally.epoch 0 (λ e. omega arith))
-              ∙ ap (λ x. onward x (λ p. Ok (record { claim = record { epoch = g.tally.epoch; digest = g.tally.digest }; next = p }))) stood;
+          value = record { value = g.value.claim; next = end + terms.q };
+          is = ap (λ x. onward x (after_helds s)) w.is ∙ cond-false _ _ _ (ne_eqb g.value.claim.epoch 0 (λ e. omega arith))
+              ∙ ap (λ x. onward x (λ p. Ok (record { value = g.value.claim; next = p }))) stood;
           next = omega (arith, length-append hs backed, quorum.long);
         }
 
@@ -247,14 +245,14 @@ module _ (accepts : Statement → ℕ → Bool) (terms : Terms) (digests : ℕ �
         → Passed (numbers accepts terms rs (map head_of ps) k s place cs) (length rs)
     unfolding numbers
     numbers_run ps all zero s place cs pre low is long =
-        record { value = record { claims = cs; next = place }; is = refl; next = omega (arith, ap length is, length-append pre []) }
+        record { value = record { value = cs; next = place }; is = refl; next = omega (arith, ap length is, length-append pre []) }
     numbers_run ps all (suc k) s place cs pre low is long =
         let f = found_run s place ps pre (flat_map (at_number ps) (range_with_len (s + 1) k)) all low is long in
-        let w = numbers_run ps all k (s + 1) f.value.next (cs ++ f.value.claim ∷ []) (pre ++ at_number ps s) (All-weaker _ _ (λ p h. omega arith) ps low)
+        let w = numbers_run ps all k (s + 1) f.value.next (cs ++ f.value.value ∷ []) (pre ++ at_number ps s) (All-weaker _ _ (λ p h. omega arith) ps low)
         (is ∙ sym (append_assoc pre (at_number ps s) (flat_map (at_number ps) (range_with_len (s + 1) k)))) (length-append pre (at_number ps s) ∙ ap (λ n. n + length (at_number ps s)) long ∙ sym f.next) in
         record {
           value = w.value;
-          is = ap (λ x. onward x (λ y. numbers accepts terms rs (map head_of ps) k (s + 1) y.next (cs ++ y.claim ∷ []))) f.is ∙ w.is;
+          is = ap (λ x. onward x (λ y. numbers accepts terms rs (map head_of ps) k (s + 1) y.next (cs ++ y.value ∷ []))) f.is ∙ w.is;
           next = w.next;
         }
 
@@ -289,8 +287,8 @@ module _ (accepts : Statement → ℕ → Bool) (terms : Terms) (digests : ℕ �
       ]
 
   -- what is said after the checkpoints
-  abbrev closing : List Sealed → ℕ → DigestValue → Span → Result Opened ℕ
-  closing rs base mark w = cond (ltb w.next (length rs)) (Err w.next) (Ok (record { base = base; mark = mark; claims = w.claims }))
+  abbrev closing : List Sealed → ℕ → DigestValue → Found (List Claim) → Result Opened ℕ
+  closing rs base mark w = cond (ltb w.next (length rs)) (Err w.next) (Ok (record { base = base; mark = mark; claims = w.value }))
 
   accepted_by : ((s : ℕ) → digests 0 s ≡ value_of 0) → (k : ℕ) → k ≡ 32 → (ps : List (List Sealed))
       → Quorum terms (stable_fits accepts terms) (flat_map (one_at 0) ps) → AllByRecursion T ps
@@ -315,7 +313,7 @@ module _ (accepts : Statement → ℕ → Bool) (terms : Terms) (digests : ℕ �
       ap (λ ts. numbers accepts terms rs ts 32 (h + 1) (q + length cks) []) heads
       ∙ ap (λ n. numbers accepts terms rs (map head_of ps) n (h + 1) (q + length cks) []) (sym is-k) ∙ w.is in
       let mark = mark_at rs h q in (
-        record { base = h; mark = mark; claims = w.value.claims },
+        record { base = h; mark = mark; claims = w.value.value },
         ap (λ x. onward x (λ p. after_stables accepts terms rs (largest (take q rs)) p)) stood
             ∙ ap (λ b. after_stables accepts terms rs b q) base_is
             ∙ ap (λ x. onward x (λ p. onward (numbers accepts terms rs (take q rs) 32 (h + 1) p []) (closing rs h mark))) (checkpoints_on ps rs front (at_numbers ps h) all quorum.long refl)

@@ -31,7 +31,7 @@ ends_at_3 (Err n) = false
 
 ended : (r : Result ℕ ℕ) → ends_at_3 r ≡ true → r ≡ Ok 3
 ended (Ok n) e = ap Ok (eqb-true n 3 e)
-ended (Err n) e = absurd (both_ways false refl e)
+ended (Err n) e = absurd cc
 
 abbrev quorum_test : (Sealed → Bool) → List Sealed → Bool
 quorum_test allows rs = eqb (length rs) 3 && ends_at_3 (grouped signer_of allows 4 3 0 0 rs)

@@ -5,6 +5,8 @@ use Rattle.wire.specs.Frames.{statement_bytes}
 use Rattle.wire.specs.declared.records.Statement.{Statement}
 use Rattle.wire.specs.declared.records.Sealed.{Sealed}
 use Rattle.digest.specs.Fnv.{fnv1a}
+use Rattle.host.specs.declared.keys.Party.{Party}
+use Rattle.host.specs.declared.keys.Party.TheVariants.{Controller, Client}
 use Rattle.wire.specs.declared.kinds.Kind.TheVariants.{Request}
 use Rattle.wire.specs.declared.kinds.Kind.{Kind}
 use Rattle.wire.specs.Kinds.{same_kind}
@@ -12,6 +14,10 @@ use Rattle.wire.specs.Kinds.{same_kind}
 -- who seals a kind: 1 a client (requests), 0 a controller
 abbrev pub party_of : Kind → ℕ
 party_of kind = cond (same_kind kind Request) 1 0
+
+abbrev pub party_number : Party → ℕ
+party_number Controller = 0
+party_number Client = 1
 
 abbrev pub key_of : ℕ → ℕ → ℕ → ℕ
 key_of secret party signer = fnv1a (bytes8 secret ++ party ∷ signer ∷ [])

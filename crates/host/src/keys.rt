@@ -1,10 +1,9 @@
 // Exercise seals, for simulations only. This is no signature: whoever has the secret can seal in
 // everybody's name, and FNV-1a is no cryptographic hash.
 ghost use Rattle.std.specs.Prelude.{◌≡◌};
-ghost use Rattle.wire.specs.Bytes.{bytes4, bytes8};
 ghost use Rattle.wire.specs.Frames.{statement_bytes};
 ghost use Rattle.digest.specs.Fnv.{fnv_from};
-ghost use Rattle.host.specs.Keys.{party_of, key_of, tag_of, sealed_by, accepted_by};
+ghost use Rattle.host.specs.Keys.{party_number, party_of, key_of, tag_of, sealed_by, accepted_by};
 
 use digest::fnv::{absorb, absorb_all, offset_basis};
 use seal::checker::SealChecker;
@@ -17,26 +16,23 @@ pub struct Keyring {
     secret: u64,
 }
 
-// Who seals a kind: 1 a client, 0 a controller.
-fn party(kind: Kind) -> u8
-    ensures { result ≡ party_of kind }
-{
-    if kind == Kind::Request {
-        return 1;
+// Who seals a statement.
+#[derive(Clone, Copy)]
+enum Party {
+    Controller = 0,
+    Client = 1,
+}
+
+impl Party {
+    // Who seals a kind.
+    fn of(kind: Kind) -> Party
+        ensures { party_number result ≡ party_of kind }
+    {
+        if kind == Kind::Request {
+            return Party::Client;
+        }
+        Party::Controller
     }
-    0
-}
-
-fn absorb4(hash: u64, number: u32) -> u64
-    ensures { result ≡ fnv_from hash (bytes4 number) }
-{
-    absorb_all(hash, &number.to_be_bytes())
-}
-
-fn absorb8(hash: u64, number: u64) -> u64
-    ensures { result ≡ fnv_from hash (bytes8 number) }
-{
-    absorb_all(hash, &number.to_be_bytes())
 }
 
 // The statement's 26 bytes, after what was hashed before.
@@ -44,8 +40,10 @@ fn absorb_statement(hash: u64, st: &Statement) -> u64
     ensures { result ≡ fnv_from hash (statement_bytes st.now) }
 {
     let said = absorb(absorb(hash, u8::from(st.kind)), st.signer);
-    let placed = absorb8(absorb4(said, st.epoch), st.number);
-    absorb8(absorb4(placed, st.held), st.digest.word)
+    let epoch = absorb_all(said, &st.epoch.to_be_bytes());
+    let number = absorb_all(epoch, &st.number.to_be_bytes());
+    let held = absorb_all(number, &st.held.to_be_bytes());
+    absorb_all(held, &st.digest.word.to_be_bytes())
 }
 
 impl Keyring {
@@ -56,18 +54,19 @@ impl Keyring {
     }
 
     // The key of one party.
-    fn key(&self, party: u8, signer: u8) -> u64
-        ensures { result ≡ key_of self.now.secret party signer }
+    fn key(&self, party: Party, signer: u8) -> u64
+        ensures { result ≡ key_of self.now.secret (party_number party) signer }
     {
-        absorb(absorb(absorb8(offset_basis(), self.secret), party), signer)
+        let secret = absorb_all(offset_basis(), &self.secret.to_be_bytes());
+        absorb(absorb(secret, party as u8), signer)
     }
 
     // The seal of a statement by its signer.
     pub fn tag(&self, st: &Statement) -> u64
         ensures { result ≡ tag_of self.now.secret st.now }
     {
-        let key = self.key(party(st.kind), st.signer);
-        absorb_statement(absorb8(offset_basis(), key), st)
+        let key = self.key(Party::of(st.kind), st.signer);
+        absorb_statement(absorb_all(offset_basis(), &key.to_be_bytes()), st)
     }
 
     // The statement under its signer's seal.

@@ -47,7 +47,7 @@ pub record BlundersShow : Type 0 where
   pub signed : count signers 4 ≡ quorum 4
   pub shared : count (λ i. committers i && (signers i && honest i)) 4 ≡ 1
   -- the highest claim is what was committed; the most frequent and the first are not
-  pub highest_keeps : (fold tallied blank claims).digest ≡ value_of 22
+  pub highest_keeps : (fold tallied blank claims).claim.digest ≡ value_of 22
   pub most_frequent_loses : most_frequent claims ≡ value_of 11
   pub first_loses : first_claimed claims ≡ value_of 11
   -- two groups of one less than a quorum need share nobody

@@ -6,6 +6,6 @@ use Rattle.dossier.proofs.target.Target.all_numbers.Given as goal
 abbrev pub invariant-loop-k : goal.invariant-loop-k
 invariant-loop-k g l =
     let accepts = g.C.SealChecker.accepts l.self.checker.now in
-    (length l.claims ≡ 32)
-    × (numbers accepts l.self.terms l.records l.stables (32 - l.k) (l.base + 1 + l.k) l.next (take l.k l.claims)
+    (length l.claim-items ≡ 32)
+    × (numbers accepts l.self.terms l.records l.stables (32 - l.k) (l.base + 1 + l.k) l.next (take l.k l.claim-items)
     ≡ numbers accepts l.self.terms l.records l.stables 32 (l.base + 1) l.place [])
