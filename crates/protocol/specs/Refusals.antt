@@ -1,5 +1,5 @@
 -- The refusals' numbers, and the first refusal that applies.
-use Rattle.std.specs.Prelude.{ℕ, Bool, cond, List, [], ◌∷◌, Some, None, Option}
+use Rattle.std.specs.Prelude.{◌≡◌, ℕ, Bool, true, false, cond, List, [], ◌∷◌, Some, None, Ok, Err, Option, Result}
 use Rattle.protocol.specs.declared.refusal.Refusal.{Refusal}
 use Rattle.protocol.specs.declared.refusal.Refusal.TheVariants.{House, Room, Frame, Signer, Kind, Epoch, Number, Authority, Seal, Standing, Unproposed, Batch, Request, Record, Unfinished, LastEpoch}
 
@@ -39,3 +39,13 @@ at_request (Some i) = Some (Request i)
 abbrev pub at_record : Option ℕ → Option Refusal
 at_record None = None
 at_record (Some i) = Some (Record i)
+
+-- a value, unless there is a refusal
+abbrev pub ok_unless : {A : Type 0} → A → Option Refusal → Result A Refusal
+ok_unless a None = Ok a
+ok_unless a (Some r) = Err r
+
+-- one check: where it applies it refuses, and then only
+abbrev pub Refuses : {A : Type 0} → Bool → Refusal → Result A Refusal → Type 0
+Refuses b r (Ok a) = b ≡ false
+Refuses b r (Err e) = (b ≡ true) × (e ≡ r)
