@@ -1,5 +1,6 @@
 -- The refusals' numbers, and the first refusal that applies.
-use Rattle.std.specs.Prelude.{◌≡◌, ℕ, Bool, true, false, cond, List, [], ◌∷◌, Some, None, Ok, Err, Option, Result}
+use Rattle.std.specs.Prelude.{◌≡◌, ℕ, Bool, true, false, cond, List, [], ◌∷◌, ◌++◌, codes, Some, None, Ok, Err, Option, Result}
+use Rattle.std.specs.Fmt.{decimal}
 use Rattle.protocol.specs.declared.refusal.Refusal.{Refusal}
 use Rattle.protocol.specs.declared.refusal.Refusal.TheVariants.{House, Room, Frame, Signer, Kind, Epoch, Number, Authority, Seal, Standing, Unproposed, Batch, Request, Record, Unfinished, LastEpoch}
 
@@ -20,6 +21,13 @@ refusal_number (Request i) = 13
 refusal_number (Record i) = 14
 refusal_number Unfinished = 15
 refusal_number LastEpoch = 16
+
+-- a refusal as text: its number, and the place in a frame or the index that it is at
+abbrev pub refusal_text : Refusal → List ℕ
+refusal_text (Frame f) = decimal 3 ++ (codes " place " ++ decimal f.place)
+refusal_text (Request i) = decimal 13 ++ (codes " at " ++ decimal i)
+refusal_text (Record i) = decimal 14 ++ (codes " at " ++ decimal i)
+refusal_text r = decimal (refusal_number r)
 
 -- checks in their order: the first that applies refuses
 abbrev pub first_of : List (Bool × Refusal) → Option Refusal

@@ -12,7 +12,11 @@ use table::records::Place;
 use wire::records::{Batch, DigestValue, Request};
 
 // The batch of a digest, if these requests are it.
-pub(crate) fn batch_of<D: Digest>(digest: &D, wanted: &DigestValue, requests: &[Request]) -> Result<Batch, Refusal>
+pub(crate) fn batch_of<D: Digest>(
+    digest: &D,
+    wanted: &DigestValue,
+    requests: &[Request],
+) -> Result<Batch, Refusal>
     ensures { MatchResult result (λ b. (no_batch_of (D.value digest.now) wanted.now requests.now ≡ false) × (b ≡ stored requests.now)) (λ e. (no_batch_of (D.value digest.now) wanted.now requests.now ≡ true) × (e ≡ Refusal.Batch)) }
 {
     let batch = Batch::from_slice(requests).map_err(|_| Refusal::Batch)?;
@@ -38,7 +42,7 @@ fn has_request(requests: &[Request], q: &Request) -> bool
 fn batch_has(batch: &Option<Batch>, q: &Request) -> bool
     ensures { result ≡ in_batch batch.now q.now }
 {
-    batch.is_some_and(|b| has_request(b.as_slice(), q))
+    batch.as_ref().is_some_and(|b| has_request(b.as_slice(), q))
 }
 
 // Whether a known batch above the number d has a request; the first place is that of base + 1.
@@ -46,7 +50,10 @@ fn is_known(places: &[Place], base: u64, d: u64, q: &Request) -> bool
     ensures { result ≡ known_from (base + 1) d q.now places.now }
 {
     let delivered = d.saturating_sub(base) as usize;
-    places.iter().skip(delivered).any(|p| batch_has(&p.batch, q))
+    places
+        .iter()
+        .skip(delivered)
+        .any(|p| batch_has(&p.batch, q))
 }
 
 impl Core {

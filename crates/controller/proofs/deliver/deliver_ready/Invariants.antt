@@ -8,9 +8,9 @@ abbrev pub invariant-loop-k : goal.invariant-loop-k
 invariant-loop-k g l =
     let next = g.P.Application.next in
     let marked = g.P.Application.marked in
-    Reached l.initial.core l.initial.outbox l.initial.progress (deliver_ready next marked l.k l.initial.core (begin next marked l.initial.core l.initial.app [])) l.core l.app l.outbox l.progress
+    Reached l.initial.core l.initial.post l.initial.progress (deliver_ready next marked l.k l.initial.core (begin next marked l.initial.core l.initial.app [])) l.core l.app l.post l.progress
     × (l.core.delivered ≤ 1000000000032)
-    × (l.progress.issued ≤ l.initial.progress.issued + l.k)
+    × (l.post.sent ≤ l.initial.post.sent + l.k)
     × (l.progress.batches ≤ 1 + l.k)
     × (l.progress.applied ≤ 16 + 16 * l.k)
     × (l.progress.passed ≤ 16 + 16 * l.k)
