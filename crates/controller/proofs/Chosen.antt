@@ -1,5 +1,5 @@
 -- What a dossier chooses, number by number, and its checkpoints as votes.
-use Rattle.std.proofs.Common.{◌≡◌, ℕ, zero, suc, ◌+◌, ◌-◌, ◌<◌, ◌≤◌, Bool, false, eqb, List, [], ◌∷◌, ◌++◌, map, length, get_or, take, drop, set, replicate, Some, None, Ok, Err, Option, sym, refl, ap, ◌∙◌, subst, append_assoc, append-nil, arith}
+use Rattle.std.proofs.Common.{◌≡◌, ℕ, zero, suc, ◌+◌, ◌<◌, ◌≤◌, Bool, false, eqb, List, [], ◌∷◌, ◌++◌, map, length, get_or, take, drop, set, Some, None, Ok, Err, Option, sym, refl, ap, ◌∙◌, subst, append_assoc, append-nil, arith}
 use denote.Param.Members.{Mut}
 use Rattle.std.specs.Fn.{Called}
 use Rattle.std.specs.Array.{IsFromFnResultFrom, IsFromFnResult}
@@ -25,7 +25,7 @@ use Rattle.protocol.specs.declared.refusal.Refusal.{Refusal}
 use Rattle.protocol.specs.declared.refusal.Refusal.TheVariants.{Room}
 use Rattle.protocol.specs.State.{size, own, enough}
 use Rattle.controller.specs.Sound.{Sound}
-use Rattle.protocol.specs.Call.{unsealed, written_over, called, cramped}
+use Rattle.protocol.specs.Call.{unsealed, called, cramped}
 use Rattle.protocol.specs.Enter.{as_vote, base_proof, choices, prepares_chosen, opened, new_refusal, enter_refusal, enter_walked, entered}
 use Rattle.controller.specs.declared.post.Post.{Post}
 use Rattle.controller.specs.Sending.{Sent}

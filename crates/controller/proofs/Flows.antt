@@ -1,8 +1,7 @@
 -- Deliveries, one after another.
-use Rattle.std.proofs.Common.{◌≡◌, ℕ, zero, suc, ◌+◌, ◌-◌, ◌%◌, ◌≤◌, Bool, true, false, cond, eqb, ltb, List, [], ◌∷◌, ◌++◌, map, length, Some, None, Option, sym, refl, ap, ◌∙◌, subst, append_assoc, append-nil, arith}
-use Rattle.std.proofs.lemmas.List.{length-append, length-map, map-append}
-use Rattle.std.proofs.lemmas.Bool.{and_parts, leb-true}
-use Rattle.wire.specs.declared.records.Sealed.{Sealed}
+use Rattle.std.proofs.Common.{◌≡◌, ℕ, zero, suc, ◌+◌, ◌-◌, ◌%◌, ◌<◌, ◌≤◌, Bool, true, false, cond, eqb, ltb, List, [], ◌∷◌, ◌++◌, map, length, Some, None, Option, sym, refl, ap, ◌∙◌, subst, append_assoc, append-nil, arith}
+use Rattle.std.proofs.lemmas.List.{length-append, map-append}
+use Rattle.std.proofs.lemmas.Bool.{and_parts, ltb-true, leb-true}
 use Rattle.wire.specs.declared.records.Request.{Request}
 use Rattle.wire.specs.declared.records.Batch.{Batch}
 use Rattle.wire.specs.Frames.{requests_of}
@@ -21,9 +20,11 @@ use Rattle.controller.specs.Sending.{Sent}
 use Rattle.controller.specs.Agree.{due, core_after, progress_after, Reached}
 use Rattle.controller.proofs.Posts.{sent_none, sent_more}
 
--- a number that is ready is at most 32 above the stable one
-pub ready_low : (n q : ℕ) (t : Table) (d : ℕ) (rs : List Request) → ready n q t d ≡ Some rs → d + 1 ≤ t.stable + 32
-ready_low n q t d rs e = leb-true (d + 1) (t.stable + 32) (and_parts (ltb t.stable (d + 1)) _ (go (in_window t (d + 1)) (committed_batch n q (place_at t (d + 1)).proposal (place_at t (d + 1))) e)).1
+-- a number that is ready has a place
+pub ready_placed : (n q : ℕ) (t : Table) (d : ℕ) (rs : List Request) → ready n q t d ≡ Some rs → (t.stable ≤ d) × (d + 1 ≤ t.stable + 32)
+ready_placed n q t d rs e =
+    let placed = and_parts (ltb t.stable (d + 1)) _ (go (in_window t (d + 1)) (committed_batch n q (place_at t (d + 1)).proposal (place_at t (d + 1))) e) in
+    (omega (arith, ltb-true t.stable (d + 1) placed.0), leb-true (d + 1) (t.stable + 32) placed.1)
   where
     go : (b : Bool) (o : Option (List Request)) → cond b o None ≡ Some rs → b ≡ true
     go true o h = refl
@@ -233,13 +234,23 @@ module _ {X : Type 0} (next : X → ℕ → ℕ → ℕ → X) (marked : X → �
           subst (λ h. Reached c box p h c' x' box' p') (ready_ends k c (begin next marked c x []) h (sym there ∙ sym is)) was
 
       -- a number that is ready has a place
-      pub next_low : (b : Batch) (c'' : Core) (x'' : X) (box'' : Post) (p'' : Progress) → c.table.stable ≤ 1000000000000
-          → Some (requests_of b) ≡ ready (size c') (enough c') c'.table c'.delivered
-          → Reached c' box' p' (deliver_one next marked (own c') (begin next marked c' x' []) (requests_of b)) c'' x'' box'' p''
-          → c''.delivered ≤ 1000000000032
-      next_low b c'' x'' box'' p'' low is step =
-          let rs = requests_of b in
-          let at = ready_low (size c') (enough c') c'.table c'.delivered (requests_of b) (sym is) in
-          let now_at : c''.delivered ≡ c'.delivered + 1 = ap (λ (n : Core). n.delivered) step.core ∙ one_number (own c') (begin next marked c' x' []) rs in
+      pub next_placed : (b : Batch) → Some (requests_of b) ≡ ready (size c') (enough c') c'.table c'.delivered
+          → (c'.table.stable ≡ c.table.stable) × (c.table.stable ≤ c'.delivered) × (c'.delivered + 1 ≤ c.table.stable + 32)
+      next_placed b is =
+          let placed = ready_placed (size c') (enough c') c'.table c'.delivered (requests_of b) (sym is) in
           let stable : c'.table.stable ≡ c.table.stable = ap (λ (n : Core). n.table.stable) was.core in
-          omega arith
+          (stable, omega (arith, stable, placed.0), omega (arith, stable, placed.1))
+
+  -- one batch raises the number by one
+  pub one_higher : (c : Core) (x : X) (rs : List Request) (box : Post) (p : Progress) (c' : Core) (x' : X) (box' : Post) (p' : Progress)
+      → Reached c box p (deliver_one next marked (own c) (begin next marked c x []) rs) c' x' box' p' → (c'.delivered ≡ c.delivered + 1) × (c'.table.stable ≡ c.table.stable)
+  one_higher c x rs box p c' x' box' p' is =
+      (ap (λ (n : Core). n.delivered) is.core ∙ one_number (own c) (begin next marked c x []) rs, ap (λ (n : Core). n.table.stable) is.core)
+
+-- where the numbers from d₀ to d are delivered and d + 1 has a place, so had the first of them, and they are fewer than 32
+pub still_placed : (d₀ d stable : ℕ) → d₀ ≤ d → (0 < d - d₀ → stable ≤ d₀) → stable ≤ d → d + 1 ≤ stable + 32 → (stable ≤ d₀) × (d - d₀ + 1 ≤ 32)
+still_placed d₀ d stable up first low high = let from = go (d - d₀) refl in (from, omega arith)
+  where
+    go : (n : ℕ) → d - d₀ ≡ n → stable ≤ d₀
+    go zero e = omega arith
+    go (suc n) e = first (omega (arith, e))

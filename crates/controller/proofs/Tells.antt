@@ -11,7 +11,6 @@ use Rattle.controller.specs.Sound.{held_votes}
 use Rattle.table.specs.declared.records.Table.{Table}
 use Rattle.protocol.specs.declared.records.Core.{Core}
 use Rattle.protocol.specs.declared.records.Answer.{Answer}
-use Rattle.protocol.specs.declared.refusal.Refusal.{Refusal}
 use Rattle.protocol.specs.declared.refusal.Refusal.TheVariants.{Room}
 use Rattle.protocol.specs.State.{own}
 use Rattle.protocol.specs.Call.{unsealed, cramped}

@@ -1,20 +1,19 @@
 -- What a vote does to a table, and that it keeps it tame.
 use Rattle.std.proofs.Common.{◌≡◌, ℕ, ◌+◌, ◌-◌, ◌%◌, ◌≤◌, min, Bool, true, false, cond, not, ◌&&◌, ◌||◌, eqb, ltb, leb, List, [], ◌∷◌, map, length, drop, is_some, Some, None, Option, sym, refl, ap, ◌∙◌, subst, arith}
 use Rattle.std.proofs.lemmas.List.{length-map}
-use Rattle.std.proofs.lemmas.Bool.{or_parts, ltb-false, cond-true, cond-false, cond_both}
+use Rattle.std.proofs.lemmas.Bool.{or_parts, ltb-false, cond-false, cond_both}
 use Rattle.wire.specs.declared.records.DigestValue.{DigestValue}
 use Rattle.wire.specs.declared.records.Statement.{Statement}
 use Rattle.wire.specs.declared.records.Sealed.{Sealed}
 use Rattle.quorum.specs.Sizes.{faults, quorum}
 use Rattle.group.specs.Group.{list_fault}
 use Rattle.group.proofs.Groups.{groups}
-use Rattle.table.specs.declared.records.Ballot.{Ballot}
 use Rattle.table.specs.declared.records.Ballots.{Ballots}
 use Rattle.table.specs.declared.records.Votes.{Votes}
 use Rattle.table.specs.declared.records.Table.{Table}
 use Rattle.table.specs.Ballots.{backers, listed, just_backed, vote_signer}
 use Rattle.table.specs.Places.{prepared, committed, certified}
-use Rattle.table.specs.Window.{in_window, place_at, prepare_at, certify_at, row_at, move_to}
+use Rattle.table.specs.Window.{in_window, place_at, certify_at, row_at, move_to}
 use Rattle.protocol.specs.declared.records.Core.{Core}
 use Rattle.controller.specs.declared.post.Post.{Post}
 use Rattle.protocol.specs.declared.refusal.Refusal.TheVariants.{Room, Signer, Kind, Epoch, Number}
@@ -24,7 +23,7 @@ use Rattle.protocol.specs.Delivery.{begin}
 use Rattle.protocol.specs.Vote.{of_epoch, no_vote_kind, not_voted, vote_refusal, ballot_of, commit_of, with_prepare, now_prepared, prepare_table, prepare_issued, commit_table, with_checkpoint, checkpoint_table, vote_table, vote_issued}
 use Rattle.controller.specs.Sound.{Sound}
 use Rattle.controller.specs.Sending.{Sent}
-use Rattle.controller.specs.Agree.{said, Voted, Reached, no_progress}
+use Rattle.controller.specs.Agree.{Voted, Reached, no_progress}
 use Rattle.controller.proofs.Kept.{Tame, tame_with, few_drop, few_append}
 use Rattle.controller.proofs.Passes.{passes, roomy, tame}
 use Rattle.controller.proofs.Posts.{sent_none, sent_long}

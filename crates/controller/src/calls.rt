@@ -88,7 +88,7 @@ impl<D: Digest, A: Application> Controller<D, A> {
         let before = self.core.delivered;
         let mut post = Post::new(outbox);
         accept_vote(&mut self.core, vote, &mut post);
-        let none = Progress::none();
+        let none = Progress::default();
         let progress = deliver_ready(&mut self.core, &mut self.app, &mut post, none);
         Ok(progress.answer(post.sent, before))
     }
@@ -108,7 +108,7 @@ impl<D: Digest, A: Application> Controller<D, A> {
         let before = self.core.delivered;
         let mut post = Post::new(outbox);
         self.core.table.supply(number, batch);
-        let none = Progress::none();
+        let none = Progress::default();
         let progress = deliver_ready(&mut self.core, &mut self.app, &mut post, none);
         Ok(progress.answer(post.sent, before))
     }
@@ -129,7 +129,7 @@ impl<D: Digest, A: Application> Controller<D, A> {
             .check_prove(checker, &self.digest, number, requests, commits, outbox)?;
         let before = self.core.delivered;
         let mut post = Post::new(outbox);
-        let none = Progress::none();
+        let none = Progress::default();
         let first = deliver_one(&mut self.core, &mut self.app, &batch, &mut post, none);
         let progress = deliver_ready(&mut self.core, &mut self.app, &mut post, first);
         Ok(progress.answer(post.sent, before))

@@ -72,7 +72,7 @@ pub(crate) fn deliver_one<P: Application>(
     }
 }
 
-// Delivers what is ready, at most 32 batches.
+// Delivers what is ready: at most 32 batches, since a number that is ready has a place.
 pub(crate) fn deliver_ready<P: Application>(
     core: &mut Core,
     app: &mut P,
@@ -87,10 +87,7 @@ pub(crate) fn deliver_ready<P: Application>(
     ensures low { core.new.delivered ≤ 1000000000032 }
 {
     let mut progress = so_far;
-    for k in 0..32u8 {
-        let Some(batch) = ready_batch(core) else {
-            return progress;
-        };
+    while let Some(batch) = ready_batch(core) {
         progress = deliver_one(core, app, &batch, post, progress);
     }
     progress

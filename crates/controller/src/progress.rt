@@ -1,10 +1,10 @@
 // How much a call has delivered.
 ghost use Rattle.std.specs.Prelude.{◌≡◌, ◌≤◌};
-ghost use Rattle.controller.specs.Agree.{answered, no_progress};
+ghost use Rattle.controller.specs.Agree.{answered};
 
 use protocol::records::Answer;
 
-#[derive(Clone, Copy)]
+#[derive(Clone, Copy, Default)]
 pub(crate) struct Progress {
     pub(crate) batches: usize,
     pub(crate) applied: usize,
@@ -12,16 +12,6 @@ pub(crate) struct Progress {
 }
 
 impl Progress {
-    pub(crate) fn none() -> Progress
-        ensures { result ≡ no_progress }
-    {
-        Progress {
-            batches: 0,
-            applied: 0,
-            passed: 0,
-        }
-    }
-
     // The answer of a call that issued so many statements, and delivered so much after a number.
     pub(crate) fn answer(&self, issued: usize, before: u64) -> Answer
         requires { before ≤ 1000000000032 }

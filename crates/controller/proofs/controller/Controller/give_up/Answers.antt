@@ -1,4 +1,4 @@
-use Rattle.std.proofs.Common.{◌+◌, ◌≤◌, length, sym, subst, arith, rules}
+use Rattle.std.proofs.Common.{◌+◌, sym, subst, rules}
 use Rattle.protocol.specs.Change.{give_up_refusal, give_up_effect}
 use Rattle.controller.specs.Sound.{Sound}
 use Rattle.controller.proofs.Passes.{allowed, refused}

@@ -1,8 +1,8 @@
-use Rattle.std.proofs.Common.{◌≤◌, [], length, sym, ap, ◌∙◌, subst, arith, rules}
+use Rattle.std.proofs.Common.{◌≡◌, ◌≤◌, [], length, ap, ◌∙◌, subst, arith, rules}
 use Rattle.wire.specs.Frames.{stored, requests_of}
 use Rattle.wire.proofs.Exact.{stored_back}
 use Rattle.protocol.specs.State.{own}
-use Rattle.protocol.specs.Delivery.{deliver_ready, deliver_one, begin}
+use Rattle.protocol.specs.Delivery.{deliver_one, begin}
 use Rattle.protocol.specs.Prove.{prove_refusal, prove_effect}
 use Rattle.controller.specs.Agree.{Reached, no_progress}
 use Rattle.controller.proofs.Passes.{allowed, refused}
@@ -25,10 +25,11 @@ deliver_ready-progress-requires-clause-low g c =
     let ok = allowed _ c.in_ok-batch.batch _ c.in_ok-batch.ensures in
     let may = prove_may (g.C.SealChecker.accepts c.args.checker.now) (g.D.Digest.value c.args.self.now.digest) core c.args.outbox.now c.args.number c.args.requests.now c.args.commits.now ok.1 in
     let first = c.deliver_one-first in
-    one_low g.A.Application.next g.A.Application.marked core c.args.self.now.app _ c.new-post.result c.none-none.result first.new.core first.new.app first.new.post first.result may.2 first.ensures.reached
+    one_low g.A.Application.next g.A.Application.marked core c.args.self.now.app _ c.new-post.result c.default-none.result first.new.core first.new.app first.new.post first.result may.2 first.ensures.reached
 
 pub returns-clause-agrees : goal.returns-clause-agrees
 returns-clause-agrees g c =
+    let none : c.default-none.result ≡ no_progress = search rules in
     let next = g.A.Application.next in
     let marked = g.A.Application.marked in
     let core = c.args.self.now.core in
@@ -48,8 +49,8 @@ returns-clause-agrees g c =
     let same = ap requests_of ok.0 ∙ stored_back rs may.0 in
     let flow = deliver_one next marked (own core) (begin next marked core x []) rs in
     let was : Reached core start no_progress flow first.new.core first.new.app first.new.post first.result =
-    subst (λ q. Reached core start q flow first.new.core first.new.app first.new.post first.result) c.none-none.ensures
-    (subst (λ l. Reached core start c.none-none.result (deliver_one next marked (own core) (begin next marked core x []) l) first.new.core first.new.app first.new.post first.result) same first.ensures.reached) in
+    subst (λ q. Reached core start q flow first.new.core first.new.app first.new.post first.result) none
+    (subst (λ l. Reached core start c.default-none.result (deliver_one next marked (own core) (begin next marked core x []) l) first.new.core first.new.app first.new.post first.result) same first.ensures.reached) in
     let room : first.new.post.sent ≤ length start.outbox.now = omega (arith, may.1, first.ensures.sent, c.new-post.ensures.sent, ap length c.new-post.ensures.outbox) in
     let reached = goes_on next marked core start no_progress flow first.new.core first.new.app first.new.post first.result was room last.core last.app last.post p c.deliver_ready-progress.ensures.reached in
     delivered_agrees next marked core core x box _ start last.post refusal flow last.core last.app p c.answer.result ok.1 c.new-post.ensures.outbox c.new-post.ensures.sent reached (search rules) c.answer.ensures

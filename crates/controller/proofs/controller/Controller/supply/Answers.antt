@@ -1,4 +1,4 @@
-use Rattle.std.proofs.Common.{[], sym, ap, ◌∙◌, subst, rules}
+use Rattle.std.proofs.Common.{◌≡◌, [], ap, ◌∙◌, subst, rules}
 use Rattle.wire.specs.Frames.{stored}
 use Rattle.table.specs.Window.{supply_at}
 use Rattle.protocol.specs.State.{with_table}
@@ -20,6 +20,7 @@ returns-in_err-batch-clause-agrees g c =
 
 pub returns-clause-agrees : goal.returns-clause-agrees
 returns-clause-agrees g c =
+    let none : c.default-none.result ≡ no_progress = search rules in
     let next = g.A.Application.next in
     let marked = g.A.Application.marked in
     let core = c.args.self.now.core in
@@ -34,6 +35,6 @@ returns-clause-agrees g c =
     let after = with_table core (supply_at core.table c.args.number (stored rs)) in
     let made = ap (with_table core) (c.supply.ensures ∙ ap (supply_at core.table c.args.number) ok.0) in
     let reached : Reached after start no_progress (deliver_ready next marked 32 after (begin next marked after x [])) last.core last.app last.post p =
-    subst (λ q. Reached after start q (deliver_ready next marked 32 after (begin next marked after x [])) last.core last.app last.post p) c.none-none.ensures
-    (subst (λ k. Reached k start c.none-none.result (deliver_ready next marked 32 k (begin next marked k x [])) last.core last.app last.post p) made c.deliver_ready-progress.ensures.reached) in
+    subst (λ q. Reached after start q (deliver_ready next marked 32 after (begin next marked after x [])) last.core last.app last.post p) none
+    (subst (λ k. Reached k start c.default-none.result (deliver_ready next marked 32 k (begin next marked k x [])) last.core last.app last.post p) made c.deliver_ready-progress.ensures.reached) in
     delivered_agrees next marked core after x box _ start last.post refusal (begin next marked after x []) last.core last.app p c.answer.result ok.1 c.new-post.ensures.outbox c.new-post.ensures.sent reached (search rules) c.answer.ensures

@@ -1,4 +1,4 @@
-use Rattle.std.proofs.Common.{◌≤◌, [], length, sym, ap, subst, arith, rules}
+use Rattle.std.proofs.Common.{◌≡◌, ◌≤◌, [], length, sym, subst, rules}
 use Rattle.protocol.specs.declared.records.Core.{Core}
 use Rattle.protocol.specs.State.{with_table}
 use Rattle.protocol.specs.Delivery.{deliver_ready, begin}
@@ -39,6 +39,7 @@ invariant_of-self g c =
 
 pub returns-clause-agrees : goal.returns-clause-agrees
 returns-clause-agrees g c =
+    let none : c.default-none.result ≡ no_progress = search rules in
     let next = g.A.Application.next in
     let marked = g.A.Application.marked in
     let core = c.args.self.now.core in
@@ -56,6 +57,6 @@ returns-clause-agrees g c =
     let flow = begin next marked after x (vote_issued core v) in
     let was = voted_reached next marked core (vote_table core v) (vote_issued core v) start vote.new.core x vote.new.post vote.ensures in
     let on : Reached vote.new.core vote.new.post no_progress (deliver_ready next marked 32 vote.new.core (begin next marked vote.new.core x [])) last.core last.app last.post p =
-    subst (λ q. Reached vote.new.core vote.new.post q (deliver_ready next marked 32 vote.new.core (begin next marked vote.new.core x [])) last.core last.app last.post p) c.none-none.ensures c.deliver_ready-progress.ensures.reached in
+    subst (λ q. Reached vote.new.core vote.new.post q (deliver_ready next marked 32 vote.new.core (begin next marked vote.new.core x [])) last.core last.app last.post p) none c.deliver_ready-progress.ensures.reached in
     let reached = goes_on next marked after start no_progress flow vote.new.core x vote.new.post no_progress was left.0 last.core last.app last.post p on in
     delivered_agrees next marked core after x box _ start last.post (vote_refusal accepts core box v) flow last.core last.app p c.answer.result ok.1 c.new-post.ensures.outbox c.new-post.ensures.sent reached (search rules) c.answer.ensures
