@@ -35,10 +35,7 @@ fn quiet(issued: usize, forwarded: usize) -> Answer
     Answer {
         issued,
         forwarded,
-        first: 0,
-        batches: 0,
-        applied: 0,
-        passed: 0,
+        ..Answer::default()
     }
 }
 

@@ -29,7 +29,7 @@ pub struct Core {
 
 // What an accepted call answers: how many statements it put into the outbox, issued and forwarded, the
 // first number that it delivered (0 if none), and how many batches and requests.
-#[derive(Clone, Copy)]
+#[derive(Clone, Copy, Default)]
 pub struct Answer {
     pub issued: usize,
     pub forwarded: usize,
