@@ -1,6 +1,11 @@
 -- What a dossier chooses, number by number, and its checkpoints as votes.
-use Rattle.std.proofs.Common.{◌≡◌, ℕ, zero, suc, ◌+◌, ◌-◌, ◌<◌, ◌≤◌, Bool, false, eqb, List, [], ◌∷◌, ◌++◌, map, length, get_or, take, drop, set, replicate, Some, None, Ok, Err, Option, sym, refl, ap, ◌∙◌, subst, append_assoc, append-nil, arith}
-use Rattle.std.proofs.lemmas.List.{take_more, set_at, length-append, length-map, length-take, length-take-le, map-append}
+use Rattle.std.proofs.Common.{◌≡◌, ℕ, zero, suc, ◌+◌, ◌<◌, ◌≤◌, Bool, false, eqb, List, [], ◌∷◌, ◌++◌, map, length, get_or, take, drop, set, Some, None, Ok, Err, Option, sym, refl, ap, ◌∙◌, subst, append_assoc, append-nil, arith}
+use denote.Param.Members.{Mut}
+use Rattle.std.specs.Fn.{Called}
+use Rattle.std.specs.Array.{IsFromFnResultFrom, IsFromFnResult}
+use Rattle.std.specs.List.{range_with_len}
+use Rattle.std.proofs.lemmas.List.FromFn.{fill_by_all}
+use Rattle.std.proofs.lemmas.List.{take_more, length-map, length-take, length-take-le, map-append}
 use Rattle.std.proofs.lemmas.Bool.{cond_both}
 use Rattle.wire.specs.declared.records.DigestValue.{DigestValue}
 use Rattle.wire.specs.declared.records.Statement.{Statement}
@@ -22,10 +27,12 @@ use Rattle.protocol.specs.State.{size, own, enough}
 use Rattle.controller.specs.Sound.{Sound}
 use Rattle.protocol.specs.Call.{unsealed, called, cramped}
 use Rattle.protocol.specs.Enter.{as_vote, base_proof, choices, prepares_chosen, opened, new_refusal, enter_refusal, enter_walked, entered}
-use Rattle.controller.specs.Agree.{Agrees, written_at, enter_table, enter_chosen, enter_core, enter_issued}
-use Rattle.controller.proofs.Posts.{written_more}
+use Rattle.controller.specs.declared.post.Post.{Post}
+use Rattle.controller.specs.Sending.{Sent}
+use Rattle.controller.specs.Agree.{Agrees, enter_table, enter_chosen, enter_core, enter_issued}
+use Rattle.controller.proofs.Posts.{sent_more, sent_long, posted_all}
 use Rattle.controller.proofs.Kept.{Tame, few_entered}
-use Rattle.controller.proofs.Passes.{passes, both_pass, roomy, tame}
+use Rattle.controller.proofs.Passes.{passes, both_pass, roomy, tame, quiet_agrees}
 use Rattle.controller.proofs.Votings.{quorum_low, tame_move}
 
 pub votes_more : (xs : List Sealed) (i : ℕ) (w w' : Votes) → i < length xs → length xs ≤ 16 → w ≡ listed (map as_vote (take i xs))
@@ -48,31 +55,30 @@ unfolding choices
 length-choices o s zero = refl
 length-choices o s (suc k) = ap suc (length-choices o (s + 1) k)
 
-choices_push : (o : Opened) (s k : ℕ) → choices o s (suc k) ≡ choices o s k ++ chosen o (s + k) ∷ []
+pub choices_map : (o : Opened) (s k n : ℕ) → choices o (s + n) k ≡ map (λ i. chosen o (s + i)) (range_with_len n k)
 unfolding choices
-choices_push o s zero = let e : s ≡ s + 0 = omega arith in ap (λ n. chosen o n ∷ []) e
-choices_push o s (suc k) =
-    let e : s + 1 + k ≡ s + suc k = omega arith in
-    ap (λ l. chosen o s ∷ l) (choices_push o (s + 1) k ∙ ap (λ n. choices o (s + 1) k ++ chosen o n ∷ []) e)
+choices_map o s zero n = refl
+choices_map o s (suc k) n =
+    let e : s + n + 1 ≡ s + (n + 1) = omega arith in
+    ap (λ l. chosen o (s + n) ∷ l) (ap (λ m. choices o m k) e ∙ choices_map o s k (n + 1))
 
-pub choices_begin : (o : Opened) (s : ℕ) (l : List (Option DigestValue)) → l ≡ choices o s 0 ++ l
-unfolding choices
-choices_begin o s l = refl
+-- what calls at each number gave, where each call leaves the closure as it was
+made_each : {F B : Type 0} (g : Mut F (ℕ × Unit {0}) B) (f : F) (ys : List B) (h : ℕ → B) (d : B) → ((k : ℕ) (y : B) (q : F) → Called g f (k, tt) y q → (q ≡ f) × (y ≡ h k))
+    → (i n : ℕ) (p : F) → p ≡ f → IsFromFnResultFrom g p ys i n → (k : ℕ) → k < n → get_or ys (i + k) d ≡ h (i + k)
+made_each g f ys h d same i zero p e is k lt = absurd (omega arith)
+made_each g f ys h d same i (suc n) p e is zero lt =
+    let now : i + 0 ≡ i = omega arith in
+    let did = same i is.1 is.0 (subst (λ z. Called g z (i, tt) is.1 is.0) e is.3) in
+    ap (λ j. get_or ys j d) now ∙ (is.2.1 d ∙ (did.1 ∙ sym (ap h now)))
+made_each g f ys h d same i (suc n) p e is (suc k) lt =
+    let next : i + suc k ≡ i + 1 + k = omega arith in
+    let did = same i is.1 is.0 (subst (λ z. Called g z (i, tt) is.1 is.0) e is.3) in
+    ap (λ j. get_or ys j d) next ∙ (made_each g f ys h d same (i + 1) n is.0 did.0 is.4 k (omega arith) ∙ sym (ap h next))
 
-pub choices_more : (o : Opened) (s k : ℕ) (ds : List (Option DigestValue)) (x : Option DigestValue) → k < 32 → ds ≡ choices o s k ++ replicate (32 - k) None → x ≡ chosen o (s + k)
-    → set ds k x ≡ choices o s (k + 1) ++ replicate (32 - (k + 1)) None
-choices_more o s k ds x lt is hx =
-    let rest : List (Option DigestValue) = replicate (32 - (k + 1)) None in
-    let left : 32 - k ≡ suc (32 - (k + 1)) = omega arith in
-    let one : suc k ≡ k + 1 = omega arith in
-    ap (λ l. set l k x) (is ∙ ap (λ n. choices o s k ++ replicate n None) left)
-    ∙ (set_at (choices o s k) None rest x k (length-choices o s k)
-    ∙ (ap (λ y. choices o s k ++ y ∷ rest) hx
-    ∙ (sym (append_assoc (choices o s k) (chosen o (s + k) ∷ []) rest)
-    ∙ ap (λ l. l ++ rest) (sym (choices_push o s k) ∙ ap (choices o s) one))))
-
-pub choices_end : (o : Opened) (s k : ℕ) (ds : List (Option DigestValue)) → k ≡ 32 → ds ≡ choices o s k ++ replicate (32 - k) None → ds ≡ choices o s 32
-choices_end o s k ds e is = is ∙ (ap (λ n. choices o s n ++ replicate (32 - n) None) e ∙ append-nil (choices o s 32))
+pub made_by : {F B : Type 0} (g : Mut F (ℕ × Unit {0}) B) (f : F) (ys : List B) (h : ℕ → B) (d : B) (n : ℕ) → ((k : ℕ) (y : B) (q : F) → Called g f (k, tt) y q → (q ≡ f) × (y ≡ h k))
+    → IsFromFnResult g f ys n → ys ≡ map h (range_with_len 0 n)
+made_by g f ys h d n same is =
+    fill_by_all h ys n d is.long (λ k lt. let e : k ≡ 0 + k = omega arith in ap (λ j. get_or ys j d) e ∙ (made_each g f ys h d same 0 n f refl is.each k lt ∙ sym (ap h e)))
 
 -- PREPARES
 
@@ -91,23 +97,39 @@ chosen_push signer epoch s (d ∷ ds) o =
     ∙ (sym (append_assoc front (prepares_chosen signer epoch (s + 1) ds) (prepares_chosen signer epoch (s + length (d ∷ ds)) (o ∷ [])))
     ∙ ap (λ l. l ++ prepares_chosen signer epoch (s + length (d ∷ ds)) (o ∷ [])) (sym (chosen_append signer epoch s d ds))))
 
-pub issued_more : (signer epoch s : ℕ) (ds : List (Option DigestValue)) (i n k : ℕ) (box box' box'' : List Sealed) → i < length ds → n ≤ length box
-    → n ≡ length (prepares_chosen signer epoch s (take i ds)) → box' ≡ written_at 0 (map unsealed (prepares_chosen signer epoch s (take i ds))) box
-    → k ≡ length (prepares_chosen signer epoch (s + i) (get_or ds i None ∷ [])) → box'' ≡ written_at n (map unsealed (prepares_chosen signer epoch (s + i) (get_or ds i None ∷ []))) box'
-    → (n + k ≡ length (prepares_chosen signer epoch s (take (i + 1) ds))) × (box'' ≡ written_at 0 (map unsealed (prepares_chosen signer epoch s (take (i + 1) ds))) box)
-issued_more signer epoch s ds i n k box box' box'' lt room hn is hk next =
-    let front = prepares_chosen signer epoch s (take i ds) in
-    let one = prepares_chosen signer epoch (s + i) (get_or ds i None ∷ []) in
-    let more : prepares_chosen signer epoch s (take (i + 1) ds) ≡ front ++ one =
+pub chosen_more : (signer epoch s : ℕ) (ds : List (Option DigestValue)) (i : ℕ) → i < length ds
+    → prepares_chosen signer epoch s (take (i + 1) ds) ≡ prepares_chosen signer epoch s (take i ds) ++ prepares_chosen signer epoch (s + i) (get_or ds i None ∷ [])
+chosen_more signer epoch s ds i lt =
     ap (prepares_chosen signer epoch s) (take_more ds i None lt)
     ∙ (chosen_push signer epoch s (take i ds) (get_or ds i None)
-    ∙ ap (λ m. front ++ prepares_chosen signer epoch (s + m) (get_or ds i None ∷ [])) (length-take-le i ds (omega arith))) in
-    let at : n ≡ 0 + length (map unsealed front) = omega (arith, hn, length-map front unsealed) in (
-      omega (arith, ap length more, length-append front one),
-      next ∙ ((λ j. written_at (at j) (map unsealed one) (is j))
-          ∙ (written_more 0 (map unsealed front) (map unsealed one) box (omega arith)
-          ∙ ap (λ l. written_at 0 l box) (sym (ap (map unsealed) more ∙ map-append unsealed front one)))),
-    )
+    ∙ ap (λ m. prepares_chosen signer epoch s (take i ds) ++ prepares_chosen signer epoch (s + m) (get_or ds i None ∷ [])) (length-take-le i ds (omega arith)))
+
+few_chosen : (signer epoch s : ℕ) (ds : List (Option DigestValue)) → length (prepares_chosen signer epoch s ds) ≤ length ds
+few_chosen signer epoch s [] = omega arith
+few_chosen signer epoch s (None ∷ ds) = omega (arith, few_chosen signer epoch (s + 1) ds)
+few_chosen signer epoch s (Some d ∷ ds) = omega (arith, few_chosen signer epoch (s + 1) ds)
+
+pub issued_few : (signer epoch s : ℕ) (ds : List (Option DigestValue)) (i : ℕ) → i ≤ length ds → length (map unsealed (prepares_chosen signer epoch s (take i ds))) ≤ i
+issued_few signer epoch s ds i h =
+    let before = prepares_chosen signer epoch s (take i ds) in
+    omega (arith, length-map before unsealed, few_chosen signer epoch s (take i ds), length-take-le i ds h)
+
+-- the next number's prepare, where it has a choice
+pub issued_more : (signer epoch s : ℕ) (ds : List (Option DigestValue)) (i : ℕ) (p q r : Post) (xs : List Sealed) → i < length ds → p.sent + length ds ≤ length p.outbox.now
+    → Sent p q (map unsealed (prepares_chosen signer epoch s (take i ds))) → xs ≡ map unsealed (prepares_chosen signer epoch (s + i) (get_or ds i None ∷ [])) → Sent q r xs
+    → Sent p r (map unsealed (prepares_chosen signer epoch s (take (i + 1) ds)))
+issued_more signer epoch s ds i p q r xs lt room is same next =
+    let before = prepares_chosen signer epoch s (take i ds) in
+    let one = prepares_chosen signer epoch (s + i) (get_or ds i None ∷ []) in
+    sent_more p q r (map unsealed before) xs _
+    (ap (map unsealed) (chosen_more signer epoch s ds i lt) ∙ (map-append unsealed before one ∙ ap (λ l. map unsealed before ++ l) (sym same)))
+    (omega (arith, issued_few signer epoch s ds i (omega arith))) is next
+
+pub issued_room : (signer epoch s : ℕ) (ds : List (Option DigestValue)) (i : ℕ) (p q : Post) → i < length ds → p.sent + length ds ≤ length p.outbox.now
+    → Sent p q (map unsealed (prepares_chosen signer epoch s (take i ds))) → q.sent < length q.outbox.now
+issued_room signer epoch s ds i p q lt room is =
+    let few = issued_few signer epoch s ds i (omega arith) in
+    omega (arith, few, is.sent, sent_long p q (map unsealed (prepares_chosen signer epoch s (take i ds))) is (omega (arith, few, is.sent)))
 
 -- THE WHOLE
 
@@ -134,43 +156,37 @@ module _ (accepts : Statement → ℕ → Bool) {X : Type 0} (c : Core) (x : X) 
       subst (λ o. Agrees (called c x box o (enter_walked c x new records (opened accepts c new records))) (Err r) c x box) e
       (record { result = refl; core = refl; app = refl; outbox = refl })
 
-  pub enter_agrees : (o : Opened) (c' : Core) (box' : List Sealed) (k : ℕ) (a : Answer) → opened accepts c new records ≡ Ok o
+  pub enter_agrees : (o : Opened) (c' : Core) (box' : List Sealed) (start end : Post) (a : Answer) → opened accepts c new records ≡ Ok o
       → None ≡ enter_refusal accepts c box new (opened accepts c new records)
-      → c' ≡ enter_core c new records o → k ≡ length (enter_issued c new records o)
-      → box' ≡ written_at 0 (map unsealed (enter_issued c new records o)) box
-      → a ≡ record { issued = k; forwarded = 0; first = 0; batches = 0; applied = 0; passed = 0 }
+      → c' ≡ enter_core c new records o → start.outbox.now ≡ box → start.sent ≡ 0
+      → Sent start end (map unsealed (enter_issued c new records o)) → box' ≡ end.outbox.now
+      → a ≡ record { issued = end.sent; forwarded = 0; first = 0; batches = 0; applied = 0; passed = 0 }
       → Agrees (entered accepts c x box new records) (Ok a) c' x box'
-  enter_agrees o c' box' k a walk none hc hk is ha =
-      let all = map unsealed (enter_issued c new records o) in
-      let n : 0 + length all ≡ length all = omega arith in
-      subst (λ r. Agrees (called c x box r (enter_walked c x new records (opened accepts c new records))) (Ok a) c' x box') none
-      (subst (λ w. Agrees (called c x box None (enter_walked c x new records w)) (Ok a) c' x box') (sym walk)
-      (record {
-        result = ap Ok (ha ∙ (λ i. record { issued = hk i; forwarded = 0; first = 0; batches = 0; applied = 0; passed = 0 }));
-        core = hc;
-        app = refl;
-        outbox = is ∙ (ap (λ m. all ++ drop m box) n ∙ sym (ap (λ l. l ++ drop (length l) box) (append-nil all)));
-      }))
+  enter_agrees o c' box' start end a walk none hc at zeros is out ha =
+      let issued = enter_issued c new records o in
+      let all = subst (Sent start end) (sym (append-nil (map unsealed issued))) is in
+      let many = (posted_all start end (map unsealed issued) box box' at zeros is out).1 ∙ length-map issued unsealed in
+      subst (λ w. Agrees (called c x box (enter_refusal accepts c box new (opened accepts c new records)) (enter_walked c x new records w)) (Ok a) c' x box') (sym walk)
+      (quiet_agrees c (enter_core c new records o) x box box' start end (enter_refusal accepts c box new (opened accepts c new records)) issued [] c' a none hc at zeros all out
+      (ha ∙ (λ i. record { issued = many i; forwarded = 0; first = 0; batches = 0; applied = 0; passed = 0 })))
 
   pub enter_room : None ≡ enter_refusal accepts c box new (opened accepts c new records) → 400 ≤ length box
   enter_room e = roomy box (passes (cramped box) Room _ (both_pass (new_refusal accepts c box new) _ e).0).0
 
 -- the parts of the code make the whole
-pub record Entered (c : Core) (new : Sealed) (records : List Sealed) (o : Opened) (box : List Sealed) (c' : Core) (k : ℕ) (box' : List Sealed) : Type 0 where
+pub record Entered (c : Core) (new : Sealed) (records : List Sealed) (o : Opened) (p : Post) (c' : Core) (q : Post) : Type 0 where
   pub core : c' ≡ enter_core c new records o
-  pub value : k ≡ length (enter_issued c new records o)
-  pub outbox : box' ≡ written_at 0 (map unsealed (enter_issued c new records o)) box
+  pub out : Sent p q (map unsealed (enter_issued c new records o))
 
-pub enter_made : (c : Core) (new : Sealed) (records : List Sealed) (o : Opened) (q : ℕ) (marks : List Sealed) (proof : Votes) (t t' : Table) (ds : List (Option DigestValue)) (signer leaders k : ℕ) (box box' : List Sealed)
+pub enter_made : (c : Core) (new : Sealed) (records : List Sealed) (o : Opened) (q : ℕ) (marks : List Sealed) (proof : Votes) (t t' : Table) (ds : List (Option DigestValue)) (signer leaders : ℕ) (post post' : Post)
     → q ≡ enough c → marks ≡ checkpoint_group q records o → proof ≡ listed (map as_vote marks) → t ≡ move_to c.table o.base proof
     → ds ≡ choices o (t.stable + 1) 32 → signer ≡ own c
-    → k ≡ length (prepares_chosen signer new.statement.epoch (t.stable + 1) ds)
-    → box' ≡ written_at 0 (map unsealed (prepares_chosen signer new.statement.epoch (t.stable + 1) ds)) box
+    → Sent post post' (map unsealed (prepares_chosen signer new.statement.epoch (t.stable + 1) ds))
     → t' ≡ enter_all t ds → leaders ≡ number_of new.statement.digest
-    → Entered c new records o box
+    → Entered c new records o post
     (record { house = c.house; view = record { epoch = new.statement.epoch; changing = false; leaders = leaders; first = o.base + 1; last = Some (o.base + 32) }; table = t'; delivered = c.delivered; windows = c.windows })
-    k box'
-enter_made c new records o q marks proof t t' ds signer leaders k box box' hq hm hp ht hd hs hk hb he hl =
+    post'
+enter_made c new records o q marks proof t t' ds signer leaders post post' hq hm hp ht hd hs sent he hl =
     let made : t ≡ enter_table c records o =
     ht ∙ ap (move_to c.table o.base) (hp ∙ ap (λ l. listed (map as_vote l)) (hm ∙ ap (λ n. checkpoint_group n records o) hq)) in
     let chose : ds ≡ enter_chosen c records o = hd ∙ ap (λ (u : Table). choices o (u.stable + 1) 32) made in
@@ -178,6 +194,5 @@ enter_made c new records o q marks proof t t' ds signer leaders k box box' hq hm
     let table : t' ≡ enter_all (enter_table c records o) (enter_chosen c records o) = he ∙ (λ i. enter_all (made i) (chose i)) in
     record {
       core = λ i. record { house = c.house; view = record { epoch = new.statement.epoch; changing = false; leaders = hl i; first = o.base + 1; last = Some (o.base + 32) }; table = table i; delivered = c.delivered; windows = c.windows };
-      value = hk ∙ ap length issued;
-      outbox = hb ∙ ap (λ l. written_at 0 (map unsealed l) box) issued;
+      out = subst (λ l. Sent post post' (map unsealed l)) issued sent;
     }

@@ -1,20 +1,20 @@
 -- The end of a call that delivers.
-use Rattle.std.proofs.Common.{◌≡◌, ℕ, suc, ◌+◌, ◌-◌, ◌≤◌, Bool, true, false, cond, not, ◌||◌, eqb, ltb, List, [], ◌∷◌, ◌++◌, map, length, drop, is_some, None, Ok, Option, unwrap_or, sym, refl, ap, ◌∙◌, subst, append-nil, arith}
+use Rattle.std.proofs.Common.{◌≡◌, ℕ, suc, ◌+◌, ◌-◌, ◌≤◌, Bool, true, false, cond, not, ◌||◌, eqb, ltb, List, [], ◌∷◌, map, length, None, Ok, Option, sym, refl, ap, ◌∙◌, subst, append-nil, arith}
+use Rattle.std.proofs.lemmas.List.{length-map}
 use Rattle.std.proofs.lemmas.Bool.{or_parts, ltb-false, eqb-true, cond-false, ne_eqb}
 use Rattle.wire.specs.declared.records.DigestValue.{DigestValue}
 use Rattle.wire.specs.declared.records.Statement.{Statement}
 use Rattle.wire.specs.declared.records.Sealed.{Sealed}
 use Rattle.wire.specs.declared.records.Request.{Request}
 use Rattle.wire.specs.declared.records.Batch.{Batch}
-use Rattle.wire.specs.Values.{value_of}
 use Rattle.table.specs.Places.{supplied}
-use Rattle.table.specs.Window.{in_window, place_at, supply_at}
+use Rattle.table.specs.Window.{place_at, supply_at}
 use Rattle.group.specs.Group.{commits_fault}
 use Rattle.protocol.specs.declared.records.Core.{Core}
 use Rattle.protocol.specs.declared.records.Answer.{Answer}
 use Rattle.controller.specs.declared.progress.Progress.{Progress}
 use Rattle.protocol.specs.declared.refusal.Refusal.{Refusal}
-use Rattle.protocol.specs.declared.refusal.Refusal.TheVariants.{Room, Number, Unproposed, Batch as BadBatch}
+use Rattle.protocol.specs.declared.refusal.Refusal.TheVariants.{Room, Number, Batch as BadBatch}
 use Rattle.protocol.specs.Refusals.{first_of, at_record}
 use Rattle.protocol.specs.State.{size, own, enough, limit}
 use Rattle.protocol.specs.Call.{unsealed, written_over, first_number, called, cramped, delivering}
@@ -23,30 +23,26 @@ use Rattle.protocol.specs.Offer.{no_batch_of}
 use Rattle.protocol.specs.Supply.{supply_refusal}
 use Rattle.protocol.specs.Prove.{proved_digest, prove_refusal}
 use Rattle.controller.specs.Sound.{Sound}
-use Rattle.controller.specs.Agree.{Agrees, Reached, core_after, progress_after, written_at, answered, no_progress}
+use Rattle.controller.specs.declared.post.Post.{Post}
+use Rattle.controller.specs.Agree.{Agrees, Reached, core_after, progress_after, answered, no_progress}
 use Rattle.controller.proofs.Kept.{Tame, tame_with}
-use Rattle.controller.proofs.Passes.{passes, both_pass, roomy, no_more, tame}
+use Rattle.controller.proofs.Posts.{posted_all}
+use Rattle.controller.proofs.Passes.{passes, both_pass, roomy, tame}
 use Rattle.controller.proofs.Flows.{one_number}
 
 first_is : {Y : Type 0} (d : ℕ) (bs : List Y) → cond (eqb (length bs) 0) 0 (d + 1) ≡ first_number d bs
 first_is d [] = refl
 first_is d (b ∷ bs) = cond-false {A = ℕ} (eqb (suc (length bs)) 0) 0 (d + 1) (ne_eqb (suc (length bs)) 0 (λ h. omega (arith, h)))
 
-from_start : (xs box : List Sealed) → written_at 0 xs box ≡ written_over (xs ++ []) box
-from_start xs box =
-    let n : 0 + length xs ≡ length xs = omega arith in
-    ap (λ k. xs ++ drop k box) n ∙ sym (ap (λ l. l ++ drop (length l) box) (append-nil xs))
-
 module _ {X : Type 0} (next : X → ℕ → ℕ → ℕ → X) (marked : X → ℕ) where
   -- the answer is that of what was delivered
-  answer_is : (d : ℕ) (p : Progress) (f : Flow X) → p ≡ progress_after no_progress f
-      → answered d p ≡ record { issued = length f.issued; forwarded = 0; first = first_number d f.batches; batches = length f.batches; applied = f.applied; passed = f.passed }
-  answer_is d p f e =
-      let issued : 0 + length f.issued ≡ length f.issued = omega arith in
+  answer_is : (n d : ℕ) (p : Progress) (f : Flow X) → n ≡ length f.issued → p ≡ progress_after no_progress f
+      → answered n d p ≡ record { issued = length f.issued; forwarded = 0; first = first_number d f.batches; batches = length f.batches; applied = f.applied; passed = f.passed }
+  answer_is n d p f issued e =
       let batches : 0 + length f.batches ≡ length f.batches = omega arith in
       let applied : 0 + f.applied ≡ f.applied = omega arith in
       let passed : 0 + f.passed ≡ f.passed = omega arith in
-      ap (answered d) e
+      ap (answered n d) e
       ∙ (λ i. record {
         issued = issued i;
         forwarded = 0;
@@ -56,17 +52,18 @@ module _ {X : Type 0} (next : X → ℕ → ℕ → ℕ → X) (marked : X → �
         passed = passed i;
       })
 
-  pub delivered_agrees : (c after : Core) (x : X) (box : List Sealed) (o : Option Refusal) (f : Flow X) (c' : Core) (x' : X) (box' : List Sealed) (p : Progress) (a : Answer)
-      → None ≡ o → Reached after box no_progress (deliver_ready next marked 32 after f) c' x' box' p → a ≡ answered c.delivered p
-      → Agrees (called c x box o (delivering next marked after f)) (Ok a) c' x' box'
-  delivered_agrees c after x box o f c' x' box' p a none is ans =
+  pub delivered_agrees : (c after : Core) (x : X) (box box' : List Sealed) (start end : Post) (o : Option Refusal) (f : Flow X) (c' : Core) (x' : X) (p : Progress) (a : Answer)
+      → None ≡ o → start.outbox.now ≡ box → start.sent ≡ 0 → Reached after start no_progress (deliver_ready next marked 32 after f) c' x' end p → box' ≡ end.outbox.now
+      → a ≡ answered end.sent c.delivered p → Agrees (called c x box o (delivering next marked after f)) (Ok a) c' x' box'
+  delivered_agrees c after x box box' start end o f c' x' p a none at zeros is out ans =
       subst (λ r. Agrees (called c x box r (delivering next marked after f)) (Ok a) c' x' box') none
       (let all = deliver_ready next marked 32 after f in
+      let posted = posted_all start end (map unsealed all.issued) box box' at zeros is.out out in
       record {
-        result = ap Ok (ans ∙ answer_is c.delivered p all is.progress);
+        result = ap Ok (ans ∙ answer_is end.sent c.delivered p all (posted.1 ∙ length-map all.issued unsealed) is.progress);
         core = is.core;
         app = is.app;
-        outbox = is.outbox ∙ from_start (map unsealed all.issued) box;
+        outbox = posted.0 ∙ sym (ap (λ l. written_over l box) (append-nil (map unsealed all.issued)));
       })
 
   -- what a delivery leaves is sound
@@ -75,7 +72,7 @@ module _ {X : Type 0} (next : X → ℕ → ℕ → ℕ → X) (marked : X → �
       let t = subst Tame (sym (ap (λ (k : Core). k.table) e)) h in
       (t.stable, low, t.proof, t.few)
 
-  pub one_low : (c : Core) (x : X) (rs : List Request) (box : List Sealed) (p : Progress) (c' : Core) (x' : X) (box' : List Sealed) (p' : Progress) → c.delivered + 1 ≤ 1000000000000
+  pub one_low : (c : Core) (x : X) (rs : List Request) (box : Post) (p : Progress) (c' : Core) (x' : X) (box' : Post) (p' : Progress) → c.delivered + 1 ≤ 1000000000000
       → Reached c box p (deliver_one next marked (own c) (begin next marked c x []) rs) c' x' box' p' → c'.delivered ≤ 1000000000032
   one_low c x rs box p c' x' box' p' h is =
       let at : c'.delivered ≡ c.delivered + 1 = ap (λ (n : Core). n.delivered) is.core ∙ one_number next marked (own c) (begin next marked c x []) rs in
@@ -83,15 +80,8 @@ module _ {X : Type 0} (next : X → ℕ → ℕ → ℕ → X) (marked : X → �
 
 -- SUPPLY
 
-pub supply_may : (value : List ℕ → DigestValue) (c : Core) (outbox : List Sealed) (s : ℕ) (rs : List Request) → None ≡ supply_refusal value c outbox s rs
-    → (length rs ≤ 16) × (400 ≤ length outbox)
-supply_may value c outbox s rs e =
-    let p = place_at c.table s in
-    let a = passes (cramped outbox) Room _ e in
-    let b = passes (not (in_window c.table s)) Number _ a.1 in
-    let d = passes (not (is_some p.proposal) || is_some p.batch) Unproposed _ b.1 in
-    let f = passes (no_batch_of value (unwrap_or p.proposal (value_of 0)) rs) BadBatch _ d.1 in
-    (no_more value (unwrap_or p.proposal (value_of 0)) rs f.0, roomy outbox a.0)
+pub supply_room : (value : List ℕ → DigestValue) (c : Core) (outbox : List Sealed) (s : ℕ) (rs : List Request) → None ≡ supply_refusal value c outbox s rs → 400 ≤ length outbox
+supply_room value c outbox s rs e = roomy outbox (passes (cramped outbox) Room _ e).0
 
 pub supply_tame : (c : Core) (s : ℕ) (b : Batch) → Sound c → Tame (supply_at c.table s b)
 supply_tame c s b h =
@@ -110,7 +100,7 @@ prove_may accepts value c outbox s rs list e =
     let n = or_parts (not (eqb s (c.delivered + 1))) (ltb limit s) b.0 in
     let d = passes (no_batch_of value (proved_digest list) rs) BadBatch _ rest.1 in
     let same : s ≡ c.delivered + 1 = eqb-true s (c.delivered + 1) (unnot (eqb s (c.delivered + 1)) n.0) in
-    (no_more value (proved_digest list) rs d.0, roomy outbox a.0, omega (arith, ltb-false limit s n.1, same))
+    (ltb-false 16 (length rs) (or_parts (ltb 16 (length rs)) _ d.0).0, roomy outbox a.0, omega (arith, ltb-false limit s n.1, same))
   where
     unnot : (b : Bool) → not b ≡ false → b ≡ true
     unnot true h = refl

@@ -1,8 +1,7 @@
 -- Deliveries, one after another.
-use Rattle.std.proofs.Common.{◌≡◌, ℕ, zero, suc, ◌+◌, ◌-◌, ◌%◌, ◌≤◌, Bool, true, false, cond, eqb, ltb, List, [], ◌∷◌, ◌++◌, map, length, Some, None, Option, sym, refl, ap, ◌∙◌, subst, append_assoc, append-nil, arith}
-use Rattle.std.proofs.lemmas.List.{length-append, length-map, map-append}
-use Rattle.std.proofs.lemmas.Bool.{and_parts, leb-true}
-use Rattle.wire.specs.declared.records.Sealed.{Sealed}
+use Rattle.std.proofs.Common.{◌≡◌, ℕ, zero, suc, ◌+◌, ◌-◌, ◌%◌, ◌<◌, ◌≤◌, Bool, true, false, cond, eqb, ltb, List, [], ◌∷◌, ◌++◌, map, length, Some, None, Option, sym, refl, ap, ◌∙◌, subst, append_assoc, append-nil, arith}
+use Rattle.std.proofs.lemmas.List.{length-append, map-append}
+use Rattle.std.proofs.lemmas.Bool.{and_parts, ltb-true, leb-true}
 use Rattle.wire.specs.declared.records.Request.{Request}
 use Rattle.wire.specs.declared.records.Batch.{Batch}
 use Rattle.wire.specs.Frames.{requests_of}
@@ -16,12 +15,16 @@ use Rattle.controller.specs.declared.progress.Progress.{Progress}
 use Rattle.protocol.specs.State.{size, own, enough}
 use Rattle.protocol.specs.Call.{unsealed}
 use Rattle.protocol.specs.Delivery.{Flow, ready, committed_batch, checkpoint_of, onto, deliver_one, deliver_ready, begin}
-use Rattle.controller.specs.Agree.{written_at, due, core_after, progress_after, Reached}
-use Rattle.controller.proofs.Posts.{written_none, written_more}
+use Rattle.controller.specs.declared.post.Post.{Post}
+use Rattle.controller.specs.Sending.{Sent}
+use Rattle.controller.specs.Agree.{due, core_after, progress_after, Reached}
+use Rattle.controller.proofs.Posts.{sent_none, sent_more}
 
--- a number that is ready is at most 32 above the stable one
-pub ready_low : (n q : ℕ) (t : Table) (d : ℕ) (rs : List Request) → ready n q t d ≡ Some rs → d + 1 ≤ t.stable + 32
-ready_low n q t d rs e = leb-true (d + 1) (t.stable + 32) (and_parts (ltb t.stable (d + 1)) _ (go (in_window t (d + 1)) (committed_batch n q (place_at t (d + 1)).proposal (place_at t (d + 1))) e)).1
+-- a number that is ready has a place
+pub ready_placed : (n q : ℕ) (t : Table) (d : ℕ) (rs : List Request) → ready n q t d ≡ Some rs → (t.stable ≤ d) × (d + 1 ≤ t.stable + 32)
+ready_placed n q t d rs e =
+    let placed = and_parts (ltb t.stable (d + 1)) _ (go (in_window t (d + 1)) (committed_batch n q (place_at t (d + 1)).proposal (place_at t (d + 1))) e) in
+    (omega (arith, ltb-true t.stable (d + 1) placed.0), leb-true (d + 1) (t.stable + 32) placed.1)
   where
     go : (b : Bool) (o : Option (List Request)) → cond b o None ≡ Some rs → b ≡ true
     go true o h = refl
@@ -38,13 +41,12 @@ module _ {X : Type 0} (next : X → ℕ → ℕ → ℕ → X) (marked : X → �
         let n = (delivers next x c.windows rs).counted in
         (omega arith, omega arith)
 
-    pub one_reached : (box : List Sealed) (p : Progress) (m k : ℕ) (box' : List Sealed) → m ≡ marked x' → k ≡ length (due (own c) (c.delivered + 1) m)
-        → box' ≡ written_at p.issued (map unsealed (due (own c) (c.delivered + 1) m)) box
-        → Reached c box p (deliver_one next marked (own c) (begin next marked c x []) rs)
-        (record { house = c.house; view = c.view; table = c.table; delivered = c.delivered + 1; windows = w }) x' box'
-        (record { issued = p.issued + k; batches = p.batches + 1; applied = p.applied + applied; passed = p.passed + passed })
+    pub one_reached : (post post' : Post) (p : Progress) (m : ℕ) → m ≡ marked x' → Sent post post' (map unsealed (due (own c) (c.delivered + 1) m))
+        → Reached c post p (deliver_one next marked (own c) (begin next marked c x []) rs)
+        (record { house = c.house; view = c.view; table = c.table; delivered = c.delivered + 1; windows = w }) x' post'
+        (record { batches = p.batches + 1; applied = p.applied + applied; passed = p.passed + passed })
     unfolding deliver_one
-    one_reached box p m k box' hm hk hb =
+    one_reached post post' p m hm hs =
         let d = delivered next x c.windows rs in
         let mark : m ≡ marked d.app = hm ∙ ap (λ (s : Course X). marked s.app) e in
         let a : p.applied + applied ≡ p.applied + (0 + d.applied) = omega (arith, ap (λ (s : Course X). s.applied) e) in
@@ -52,13 +54,8 @@ module _ {X : Type 0} (next : X → ℕ → ℕ → ℕ → X) (marked : X → �
         record {
           core = λ i. record { house = c.house; view = c.view; table = c.table; delivered = c.delivered + 1; windows = (e i).windows };
           app = ap (λ (s : Course X). s.app) e;
-          outbox = hb ∙ ap (λ n. written_at p.issued (map unsealed (due (own c) (c.delivered + 1) n)) box) mark;
-          progress = λ i. record {
-            issued = p.issued + (hk ∙ ap (λ n. length (due (own c) (c.delivered + 1) n)) mark) i;
-            batches = p.batches + 1;
-            applied = a i;
-            passed = b i;
-          };
+          out = subst (λ n. Sent post post' (map unsealed (due (own c) (c.delivered + 1) n))) mark hs;
+          progress = λ i. record { batches = p.batches + 1; applied = a i; passed = b i };
         }
 
   -- a delivery that goes on where another stopped
@@ -157,29 +154,23 @@ module _ {X : Type 0} (next : X → ℕ → ℕ → ℕ → X) (marked : X → �
       let b : f.passed + 0 ≡ f.passed = omega arith in
       λ i. record { delivered = f.delivered; windows = f.windows; app = f.app; issued = append-nil f.issued i; batches = append-nil f.batches i; applied = a i; passed = b i }
 
-  module _ (c : Core) (box : List Sealed) (p : Progress) (f : Flow X) (c' : Core) (x' : X) (box' : List Sealed) (p' : Progress) (was : Reached c box p f c' x' box' p')
-      (room : p'.issued ≤ length box) where
-    then_reached : (g : Flow X) (c'' : Core) (x'' : X) (box'' : List Sealed) (p'' : Progress) → Reached c' box' p' g c'' x'' box'' p'' → Reached c box p (frame f g) c'' x'' box'' p''
+  module _ (c : Core) (box : Post) (p : Progress) (f : Flow X) (c' : Core) (x' : X) (box' : Post) (p' : Progress) (was : Reached c box p f c' x' box' p')
+      (room : box'.sent ≤ length box.outbox.now) where
+    then_reached : (g : Flow X) (c'' : Core) (x'' : X) (box'' : Post) (p'' : Progress) → Reached c' box' p' g c'' x'' box'' p'' → Reached c box p (frame f g) c'' x'' box'' p''
     then_reached g c'' x'' box'' p'' is =
-        let fs = map unsealed f.issued in
-        let gs = map unsealed g.issued in
-        let n : p'.issued ≡ p.issued + length fs = omega (arith, ap (λ (q : Progress). q.issued) was.progress, length-map f.issued unsealed) in
-        let issued : p.issued + length f.issued + length g.issued ≡ p.issued + length (f.issued ++ g.issued) = omega (arith, length-append f.issued g.issued) in
         let batches : p.batches + length f.batches + length g.batches ≡ p.batches + length (f.batches ++ g.batches) = omega (arith, length-append f.batches g.batches) in
         let applied : p.applied + f.applied + g.applied ≡ p.applied + (f.applied + g.applied) = omega arith in
         let passed : p.passed + f.passed + g.passed ≡ p.passed + (f.passed + g.passed) = omega arith in
         record {
           core = is.core ∙ ap (λ k. core_after k g) was.core;
           app = is.app;
-          outbox = is.outbox
-              ∙ ((λ i. written_at (n i) gs (was.outbox i))
-              ∙ (written_more p.issued fs gs box (omega arith)
-              ∙ ap (λ l. written_at p.issued l box) (sym (map-append unsealed f.issued g.issued))));
-          progress = is.progress ∙ (ap (λ q. progress_after q g) was.progress ∙ (λ i. record { issued = issued i; batches = batches i; applied = applied i; passed = passed i }));
+          out = sent_more box box' box'' (map unsealed f.issued) (map unsealed g.issued) (map unsealed (f.issued ++ g.issued)) (map-append unsealed f.issued g.issued)
+              (omega (arith, was.out.sent)) was.out is.out;
+          progress = is.progress ∙ (ap (λ q. progress_after q g) was.progress ∙ (λ i. record { batches = batches i; applied = applied i; passed = passed i }));
         }
 
     -- one batch more
-    pub one_on : (rs : List Request) (c'' : Core) (x'' : X) (box'' : List Sealed) (p'' : Progress)
+    pub one_on : (rs : List Request) (c'' : Core) (x'' : X) (box'' : Post) (p'' : Progress)
         → Reached c' box' p' (deliver_one next marked (own c') (begin next marked c' x' []) rs) c'' x'' box'' p''
         → Reached c box p (deliver_one next marked (own c) f rs) c'' x'' box'' p''
     one_on rs c'' x'' box'' p'' is =
@@ -190,7 +181,7 @@ module _ {X : Type 0} (next : X → ℕ → ℕ → ℕ → X) (marked : X → �
         subst (λ h. Reached c box p h c'' x'' box'' p'') same (then_reached (deliver_one next marked (own c') (begin next marked c' x' []) rs) c'' x'' box'' p'' is)
 
     -- all that is ready
-    pub goes_on : (c'' : Core) (x'' : X) (box'' : List Sealed) (p'' : Progress)
+    pub goes_on : (c'' : Core) (x'' : X) (box'' : Post) (p'' : Progress)
         → Reached c' box' p' (deliver_ready next marked 32 c' (begin next marked c' x' [])) c'' x'' box'' p''
         → Reached c box p (deliver_ready next marked 32 c f) c'' x'' box'' p''
     goes_on c'' x'' box'' p'' is =
@@ -211,34 +202,29 @@ module _ {X : Type 0} (next : X → ℕ → ℕ → ℕ → X) (marked : X → �
   one_number signer f rs = refl
 
   -- nothing delivered yet
-  pub start_reached : (c : Core) (x : X) (box : List Sealed) (p : Progress) → Reached c box p (begin next marked c x []) c x box p
+  pub start_reached : (c : Core) (x : X) (box : Post) (p : Progress) → Reached c box p (begin next marked c x []) c x box p
   start_reached c x box p =
-      let issued : p.issued ≡ p.issued + 0 = omega arith in
       let batches : p.batches ≡ p.batches + 0 = omega arith in
       let applied : p.applied ≡ p.applied + 0 = omega arith in
       let passed : p.passed ≡ p.passed + 0 = omega arith in
-      record {
-        core = refl;
-        app = refl;
-        outbox = written_none p.issued box;
-        progress = λ i. record { issued = issued i; batches = batches i; applied = applied i; passed = passed i };
-      }
+      record { core = refl; app = refl; out = sent_none box; progress = λ i. record { batches = batches i; applied = applied i; passed = passed i } }
 
-  module _ (c : Core) (x : X) (box : List Sealed) (p : Progress) where
+  module _ (c : Core) (x : X) (box : Post) (p : Progress) where
     abbrev so_many : ℕ → Flow X
     so_many k = deliver_ready next marked k c (begin next marked c x [])
 
     pub none_on : Reached c box p (so_many 0) c x box p
     none_on = subst (λ h. Reached c box p h c x box p) (sym (ready_begins c (begin next marked c x []))) (start_reached c x box p)
 
-    module _ (k : ℕ) (c' : Core) (x' : X) (box' : List Sealed) (p' : Progress) (was : Reached c box p (so_many k) c' x' box' p') (room : p'.issued ≤ length box) where
-      pub more_on : (b : Batch) (rs : List Request) (c'' : Core) (x'' : X) (box'' : List Sealed) (p'' : Progress)
-          → Some (requests_of b) ≡ ready (size c') (enough c') c'.table c'.delivered → rs ≡ requests_of b
-          → Reached c' box' p' (deliver_one next marked (own c') (begin next marked c' x' []) rs) c'' x'' box'' p''
+    module _ (k : ℕ) (c' : Core) (x' : X) (box' : Post) (p' : Progress) (was : Reached c box p (so_many k) c' x' box' p') (room : box'.sent ≤ length box.outbox.now) where
+      pub more_on : (b : Batch) (c'' : Core) (x'' : X) (box'' : Post) (p'' : Progress)
+          → Some (requests_of b) ≡ ready (size c') (enough c') c'.table c'.delivered
+          → Reached c' box' p' (deliver_one next marked (own c') (begin next marked c' x' []) (requests_of b)) c'' x'' box'' p''
           → Reached c box p (so_many (k + 1)) c'' x'' box'' p''
-      more_on b rs c'' x'' box'' p'' is same step =
+      more_on b c'' x'' box'' p'' is step =
+          let rs = requests_of b in
           let there = ready_there c box p (so_many k) c' x' box' p' was room in
-          let e : ready (size c) (enough c) c.table (so_many k).delivered ≡ Some rs = sym there ∙ (sym is ∙ ap Some (sym same)) in
+          let e : ready (size c) (enough c) c.table (so_many k).delivered ≡ Some rs = sym there ∙ sym is in
           subst (λ h. Reached c box p h c'' x'' box'' p'') (sym (ready_more k c (begin next marked c x []) rs e))
           (one_on c box p (so_many k) c' x' box' p' was room rs c'' x'' box'' p'' step)
 
@@ -248,12 +234,23 @@ module _ {X : Type 0} (next : X → ℕ → ℕ → ℕ → X) (marked : X → �
           subst (λ h. Reached c box p h c' x' box' p') (ready_ends k c (begin next marked c x []) h (sym there ∙ sym is)) was
 
       -- a number that is ready has a place
-      pub next_low : (b : Batch) (rs : List Request) (c'' : Core) (x'' : X) (box'' : List Sealed) (p'' : Progress) → c.table.stable ≤ 1000000000000
-          → Some (requests_of b) ≡ ready (size c') (enough c') c'.table c'.delivered
-          → Reached c' box' p' (deliver_one next marked (own c') (begin next marked c' x' []) rs) c'' x'' box'' p''
-          → c''.delivered ≤ 1000000000032
-      next_low b rs c'' x'' box'' p'' low is step =
-          let at = ready_low (size c') (enough c') c'.table c'.delivered (requests_of b) (sym is) in
-          let now_at : c''.delivered ≡ c'.delivered + 1 = ap (λ (n : Core). n.delivered) step.core ∙ one_number (own c') (begin next marked c' x' []) rs in
+      pub next_placed : (b : Batch) → Some (requests_of b) ≡ ready (size c') (enough c') c'.table c'.delivered
+          → (c'.table.stable ≡ c.table.stable) × (c.table.stable ≤ c'.delivered) × (c'.delivered + 1 ≤ c.table.stable + 32)
+      next_placed b is =
+          let placed = ready_placed (size c') (enough c') c'.table c'.delivered (requests_of b) (sym is) in
           let stable : c'.table.stable ≡ c.table.stable = ap (λ (n : Core). n.table.stable) was.core in
-          omega arith
+          (stable, omega (arith, stable, placed.0), omega (arith, stable, placed.1))
+
+  -- one batch raises the number by one
+  pub one_higher : (c : Core) (x : X) (rs : List Request) (box : Post) (p : Progress) (c' : Core) (x' : X) (box' : Post) (p' : Progress)
+      → Reached c box p (deliver_one next marked (own c) (begin next marked c x []) rs) c' x' box' p' → (c'.delivered ≡ c.delivered + 1) × (c'.table.stable ≡ c.table.stable)
+  one_higher c x rs box p c' x' box' p' is =
+      (ap (λ (n : Core). n.delivered) is.core ∙ one_number (own c) (begin next marked c x []) rs, ap (λ (n : Core). n.table.stable) is.core)
+
+-- where the numbers from d₀ to d are delivered and d + 1 has a place, so had the first of them, and they are fewer than 32
+pub still_placed : (d₀ d stable : ℕ) → d₀ ≤ d → (0 < d - d₀ → stable ≤ d₀) → stable ≤ d → d + 1 ≤ stable + 32 → (stable ≤ d₀) × (d - d₀ + 1 ≤ 32)
+still_placed d₀ d stable up first low high = let from = go (d - d₀) refl in (from, omega arith)
+  where
+    go : (n : ℕ) → d - d₀ ≡ n → stable ≤ d₀
+    go zero e = omega arith
+    go (suc n) e = first (omega (arith, e))

@@ -1,5 +1,5 @@
 -- What is known where no check refuses.
-use Rattle.std.proofs.Common.{◌≡◌, ℕ, ◌+◌, ◌-◌, ◌≤◌, Bool, true, false, cond, not, ◌||◌, eqb, ltb, leb, List, [], length, replicate, is_some, Some, None, Option, refl, ◌∙◌, arith}
+use Rattle.std.proofs.Common.{◌≡◌, ℕ, ◌+◌, ◌-◌, ◌≤◌, Bool, true, false, cond, ◌||◌, List, [], ◌∷◌, ◌++◌, map, length, replicate, Some, None, Ok, Err, Option, Result, refl, ap, ◌∙◌, subst, arith}
 use Rattle.std.proofs.lemmas.Bool.{ltb-false, or_parts}
 use Rattle.wire.specs.declared.records.DigestValue.{DigestValue}
 use Rattle.wire.specs.declared.records.Statement.{Statement}
@@ -8,23 +8,25 @@ use Rattle.wire.specs.declared.records.Request.{Request}
 use Rattle.wire.specs.declared.records.Batch.{Batch}
 use Rattle.quorum.specs.declared.house.House.{House}
 use Rattle.table.specs.Places.{filled}
-use Rattle.protocol.specs.declared.refusal.Refusal.TheVariants.{Room, Signer, Kind, Epoch, Number, Authority, Standing, Batch as BadBatch}
-use Rattle.protocol.specs.Refusals.{or_else, at_request}
-use Rattle.protocol.specs.Leaders.{owns}
-use Rattle.protocol.specs.Offer.{not_offered, no_batch_of, first_bad, offer_refusal}
+use Rattle.protocol.specs.declared.refusal.Refusal.TheVariants.{Room}
+use Rattle.protocol.specs.Refusals.{first_of, or_else, ok_unless}
+use Rattle.protocol.specs.Offer.{prepare_of, offer_checks, offer_refusal, offered}
 use Rattle.table.specs.declared.records.Table.{Table}
 use Rattle.table.specs.Window.{new_table, enter_all, place_at, fill_at}
+use Rattle.protocol.specs.declared.records.Answer.{Answer}
 use Rattle.protocol.specs.declared.records.View.{View}
 use Rattle.protocol.specs.declared.records.Core.{Core}
 use Rattle.protocol.specs.declared.refusal.Refusal.{Refusal}
-use Rattle.protocol.specs.State.{size, with_table, new_core}
-use Rattle.protocol.specs.Call.{cramped}
-use Rattle.protocol.specs.Change.{last_epoch, undelivered, after_last, turned, turn_refusal}
+use Rattle.protocol.specs.State.{size, own, with_table, new_core}
+use Rattle.protocol.specs.Call.{Effect, unsealed, called, cramped, quiet}
+use Rattle.wire.specs.Frames.{stored}
+use Rattle.protocol.specs.Change.{undelivered, after_last, turned, turn_refusal}
 use Rattle.controller.specs.Sound.{Sound}
-use Rattle.controller.specs.Agree.{turn_core}
+use Rattle.controller.specs.declared.post.Post.{Post}
+use Rattle.controller.specs.Sending.{Sent}
+use Rattle.controller.specs.Agree.{Agrees, turn_core}
+use Rattle.controller.proofs.Posts.{posted_all}
 use Rattle.controller.proofs.Kept.{few_empty, entered_none, few_entered, Tame, tame_with}
-use Rattle.wire.specs.declared.kinds.Kind.TheVariants.{Proposal}
-use Rattle.wire.specs.Kinds.{same_kind}
 
 pub passes : (b : Bool) (r : Refusal) (o : Option Refusal) → None ≡ cond b (Some r) o → (b ≡ false) × (None ≡ o)
 passes false r o e = (refl, e)
@@ -37,13 +39,12 @@ reached : (last : Option ℕ) (d : ℕ) → undelivered last d ≡ false → aft
 reached None d e = omega arith
 reached (Some last) d e = let h = ltb-false d last e in omega arith
 
-pub turn_may : (c : Core) (outbox : List Sealed) → None ≡ turn_refusal c outbox → Sound c → (after_last c.view.last ≤ 1000000000033) × (last_epoch c.view.epoch ≡ false)
+pub turn_may : (c : Core) (outbox : List Sealed) → None ≡ turn_refusal c outbox → Sound c → after_last c.view.last ≤ 1000000000033
 turn_may c outbox e sound =
     let a = passes (cramped outbox) _ _ e in
     let b = passes (c.view.changing || undelivered c.view.last c.delivered) _ _ a.1 in
-    let d = passes (last_epoch c.view.epoch) _ _ b.1 in
     let u = or_parts c.view.changing (undelivered c.view.last c.delivered) b.0 in
-    (omega (arith, reached c.view.last c.delivered u.1, sound.1), d.0)
+    omega (arith, reached c.view.last c.delivered u.1, sound.1)
 
 pub turn_made : (c : Core) (v : View) (t : Table) → v ≡ turned (size c) c.view → t ≡ enter_all c.table (replicate 32 None)
     → record { house = c.house; view = v; table = t; delivered = c.delivered; windows = c.windows } ≡ turn_core c
@@ -62,24 +63,39 @@ pub both_pass : (a b : Option Refusal) → None ≡ or_else a b → (None ≡ a)
 both_pass None b e = (refl, e)
 both_pass (Some r) b e = let z : ◌≡◌ {A = ℕ} 0 1 = cc in absurd (omega arith)
 
--- a batch of a digest has at most 16 requests
-pub no_more : (value : List ℕ → DigestValue) (d : DigestValue) (rs : List Request) → no_batch_of value d rs ≡ false → length rs ≤ 16
-no_more value d rs e = ltb-false 16 (length rs) (or_parts (ltb 16 (length rs)) _ e).0
+pub offer_room : (accepts : Statement → ℕ → Bool) (value : List ℕ → DigestValue) (c : Core) (outbox : List Sealed) (p : Sealed) (rs : List Request)
+    → None ≡ offer_refusal accepts value c outbox p rs → 400 ≤ length outbox
+offer_room accepts value c outbox p rs e =
+    roomy outbox (passes (cramped outbox) Room _ (both_pass (first_of (offer_checks accepts value c outbox p rs)) _ e).0).0
 
-pub offer_may : (accepts : Statement → ℕ → Bool) (value : List ℕ → DigestValue) (c : Core) (outbox : List Sealed) (p : Sealed) (rs : List Request)
-    → None ≡ offer_refusal accepts value c outbox p rs → (length rs ≤ 16) × (400 ≤ length outbox)
-offer_may accepts value c outbox p rs e =
+-- a value that no refusal stands before
+pub allowed : {A : Type 0} (a b : A) (o : Option Refusal) → Ok b ≡ ok_unless a o → (b ≡ a) × (None ≡ o)
+allowed a b None e = (cc, refl)
+allowed a b (Some r) e = absurd (let z : ◌≡◌ {A = ℕ} 0 1 = cc in omega arith)
+
+-- a refused call leaves all as it was
+pub refused : {A X : Type 0} (a : A) (r : Refusal) (o : Option Refusal) (c : Core) (x : X) (box : List Sealed) (e : Effect X) (res : Result Answer Refusal) → Err r ≡ ok_unless a o → res ≡ Err r
+    → Agrees (called c x box o e) res c x box
+refused a r None c x box e res h is = absurd (let z : ◌≡◌ {A = ℕ} 0 1 = cc in omega arith)
+refused a r (Some q) c x box e res h is = record { result = (let same : r ≡ q = cc in is ∙ ap Err same); core = refl; app = refl; outbox = refl }
+
+-- an accepted call that delivers nothing
+pub quiet_agrees : {X : Type 0} (c after : Core) (x : X) (box box' : List Sealed) (start end : Post) (o : Option Refusal) (issued : List Statement) (forwarded : List Sealed) (c' : Core) (a : Answer)
+    → None ≡ o → c' ≡ after → start.outbox.now ≡ box → start.sent ≡ 0 → Sent start end (map unsealed issued ++ forwarded) → box' ≡ end.outbox.now
+    → a ≡ record { issued = length issued; forwarded = length forwarded; first = 0; batches = 0; applied = 0; passed = 0 }
+    → Agrees (called c x box o (quiet after x issued forwarded)) (Ok a) c' x box'
+quiet_agrees c after x box box' start end o issued forwarded c' a none hc at zeros is out ha =
+    subst (λ r. Agrees (called c x box r (quiet after x issued forwarded)) (Ok a) c' x box') none
+    (record { result = ap Ok ha; core = hc; app = refl; outbox = (posted_all start end (map unsealed issued ++ forwarded) box box' at zeros is out).0 })
+
+pub offer_agrees : {X : Type 0} (accepts : Statement → ℕ → Bool) (value : List ℕ → DigestValue) (c : Core) (x : X) (box box' : List Sealed) (p : Sealed) (rs : List Request) (start end : Post) (b : Batch) (c' : Core) (a : Answer)
+    → (b ≡ stored rs) × (None ≡ offer_refusal accepts value c box p rs) → c' ≡ with_table c (fill_at c.table p.statement.number p.statement.digest (Some b))
+    → start.outbox.now ≡ box → start.sent ≡ 0 → Sent start end (unsealed (prepare_of (own c) c.view.epoch p.statement.number p.statement.digest) ∷ []) → box' ≡ end.outbox.now
+    → a ≡ record { issued = 1; forwarded = 0; first = 0; batches = 0; applied = 0; passed = 0 } → Agrees (offered accepts value c x box p rs) (Ok a) c' x box'
+offer_agrees accepts value c x box box' p rs start end b c' a ok hc at zeros is out ha =
     let st = p.statement in
-    let all = both_pass _ (at_request (first_bad accepts value c st.number rs 0 rs)) e in
-    let a = passes (cramped outbox) Room _ all.0 in
-    let b = passes (not (same_kind st.kind Proposal) || not (eqb st.held 0)) Kind _ a.1 in
-    let d = passes (leb (size c) st.signer) Signer _ b.1 in
-    let f = passes (c.view.changing || not (eqb st.epoch c.view.epoch)) Epoch _ d.1 in
-    let h = passes (not_offered c st.number) Number _ f.1 in
-    let k = passes (is_some (place_at c.table st.number).proposal) Standing _ h.1 in
-    let l = passes (not (owns (size c) c.view st.number st.signer)) Authority _ k.1 in
-    let m = passes (no_batch_of value st.digest rs) BadBatch _ l.1 in
-    (no_more value st.digest rs m.0, roomy outbox a.0)
+    quiet_agrees c (with_table c (fill_at c.table st.number st.digest (Some (stored rs)))) x box box' start end (offer_refusal accepts value c box p rs)
+    (prepare_of (own c) c.view.epoch st.number st.digest ∷ []) [] c' a ok.1 (hc ∙ ap (λ d. with_table c (fill_at c.table st.number st.digest (Some d))) ok.0) at zeros is out ha
 
 -- a core with another table
 pub tame : (c : Core) → Sound c → Tame c.table

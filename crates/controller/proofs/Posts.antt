@@ -1,10 +1,13 @@
 -- Statements written into an outbox, one list after another.
-use Rattle.std.proofs.Common.{◌≡◌, ℕ, suc, ◌+◌, ◌%◌, ◌<◌, ◌≤◌, eqb, List, [], ◌∷◌, ◌++◌, length, take, drop, set, sym, ap, ◌∙◌, append_assoc, arith}
+use Rattle.std.proofs.Common.{◌≡◌, ℕ, suc, ◌+◌, ◌%◌, ◌<◌, ◌≤◌, eqb, List, [], ◌∷◌, ◌++◌, map, length, take, drop, set, sym, refl, ap, ◌∙◌, append_assoc, arith}
 use Rattle.std.proofs.lemmas.List.{length-append, length-drop, length-take-le, take-append-drop, take_at, drop_at, drop-drop, set_split}
-use Rattle.std.proofs.lemmas.Bool.{cond-true, cond-false, eq-eqb, ne_eqb}
+use Rattle.std.proofs.lemmas.Bool.{cond_both}
 use Rattle.wire.specs.declared.records.Sealed.{Sealed}
+use Rattle.protocol.specs.Call.{unsealed, written_over}
 use Rattle.protocol.specs.Delivery.{checkpoint_of}
-use Rattle.controller.specs.Agree.{written_at, due}
+use Rattle.controller.specs.declared.post.Post.{Post}
+use Rattle.controller.specs.Sending.{written_at, Sent}
+use Rattle.controller.specs.Agree.{due}
 
 pub written_none : (at : ℕ) (box : List Sealed) → box ≡ written_at at [] box
 written_none at box = let e : at ≡ at + 0 = omega arith in sym (take-append-drop at box) ∙ ap (λ n. take at box ++ drop n box) e
@@ -36,15 +39,30 @@ length-written at xs box h =
     length-append (take at box) (xs ++ rest)
     ∙ omega (arith, length-append xs rest, length-take-le at box (omega arith), length-drop (at + length xs) box)
 
-pub due_none : (signer number mark : ℕ) → (number % 16 ≡ 0 → ⊥) → due signer number mark ≡ []
-due_none signer number mark h = cond-false (eqb (number % 16) 0) (checkpoint_of signer number mark ∷ []) [] (ne_eqb (number % 16) 0 h)
+pub due_few : (signer number mark : ℕ) → length (map unsealed (due signer number mark)) ≤ 1
+due_few signer number mark =
+    cond_both (eqb (number % 16) 0) (checkpoint_of signer number mark ∷ []) [] (λ l. length (map unsealed l) ≤ 1) (λ _. omega arith) (λ _. omega arith)
 
-pub due_one : (signer number mark : ℕ) → number % 16 ≡ 0 → due signer number mark ≡ checkpoint_of signer number mark ∷ []
-due_one signer number mark h = cond-true (eqb (number % 16) 0) (checkpoint_of signer number mark ∷ []) [] (eq-eqb (number % 16) 0 h)
+-- nothing is sent
+pub sent_none : (p : Post) → Sent p p []
+sent_none p = record { same = refl; sent = omega arith; outbox = written_none p.sent p.outbox.now }
 
--- one more behind what is written
-pub written_push : (at n : ℕ) (xs : List Sealed) (x : Sealed) (box box' : List Sealed) → box' ≡ written_at at xs box → length box' ≡ length box → n ≡ length xs → at + n < length box
-    → set box' (at + n) x ≡ written_at at (xs ++ x ∷ []) box
-written_push at n xs x box box' is same hn h =
-    written_one (at + n) x box' (omega arith)
-    ∙ ((λ i. written_at (at + hn i) (x ∷ []) (is i)) ∙ written_more at xs (x ∷ []) box (omega arith))
+-- one list, and then another
+pub sent_more : (p q r : Post) (xs ys zs : List Sealed) → zs ≡ xs ++ ys → p.sent + length xs ≤ length p.outbox.now → Sent p q xs → Sent q r ys → Sent p r zs
+sent_more p q r xs ys zs all room a b = record {
+  same = b.same ∙ a.same;
+  sent = omega (arith, a.sent, b.sent, ap length all, length-append xs ys);
+  outbox = b.outbox ∙ ((λ i. written_at (a.sent i) ys (a.outbox i)) ∙ (written_more p.sent xs ys p.outbox.now room ∙ ap (λ l. written_at p.sent l p.outbox.now) (sym all)));
+}
+
+-- the outbox keeps its length
+pub sent_long : (p q : Post) (xs : List Sealed) → Sent p q xs → q.sent ≤ length p.outbox.now → length q.outbox.now ≡ length p.outbox.now
+sent_long p q xs a room = ap length a.outbox ∙ length-written p.sent xs p.outbox.now (omega (arith, a.sent, room))
+
+-- what is sent from an outbox's first place on
+pub posted_all : (p q : Post) (xs box box' : List Sealed) → p.outbox.now ≡ box → p.sent ≡ 0 → Sent p q xs → box' ≡ q.outbox.now → (box' ≡ written_over xs box) × (q.sent ≡ length xs)
+posted_all p q xs box box' at none a is =
+    let n : 0 + length xs ≡ length xs = omega arith in (
+      is ∙ (a.outbox ∙ ((λ i. written_at (none i) xs (at i)) ∙ ap (λ k. xs ++ drop k box) n)),
+      omega (arith, a.sent, none),
+    )

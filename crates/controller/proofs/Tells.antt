@@ -1,5 +1,5 @@
 -- What is told on giving up, place by place.
-use Rattle.std.proofs.Common.{◌≡◌, ℕ, suc, ◌+◌, ◌<◌, ◌≤◌, min, false, List, [], ◌∷◌, ◌++◌, map, length, get_or, take, drop, set, Some, None, Ok, Option, sym, refl, ap, ◌∙◌, subst, append_assoc, append-nil, arith}
+use Rattle.std.proofs.Common.{◌≡◌, ℕ, suc, ◌+◌, ◌*◌, ◌<◌, ◌≤◌, min, true, List, [], ◌∷◌, ◌++◌, map, length, get_or, take, Some, None, Ok, Option, sym, refl, ap, ◌∙◌, subst, append_assoc, append-nil, arith}
 use Rattle.std.proofs.lemmas.List.{take_more, length-append, length-map, length-take, length-take-le, map-append}
 use Rattle.wire.specs.declared.records.Sealed.{Sealed}
 use Rattle.table.specs.declared.records.Place.{Place}
@@ -11,14 +11,15 @@ use Rattle.controller.specs.Sound.{held_votes}
 use Rattle.table.specs.declared.records.Table.{Table}
 use Rattle.protocol.specs.declared.records.Core.{Core}
 use Rattle.protocol.specs.declared.records.Answer.{Answer}
-use Rattle.protocol.specs.declared.refusal.Refusal.{Refusal}
-use Rattle.protocol.specs.declared.refusal.Refusal.TheVariants.{Room, LastEpoch}
+use Rattle.protocol.specs.declared.refusal.Refusal.TheVariants.{Room}
 use Rattle.protocol.specs.State.{own}
-use Rattle.protocol.specs.Call.{unsealed, called, cramped}
-use Rattle.controller.proofs.Passes.{passes, roomy}
-use Rattle.protocol.specs.Change.{last_epoch, stable_of, held_for, helds_from, prepares_for, prepares_from, evidence, give_up_refusal, give_up_effect}
-use Rattle.controller.specs.Agree.{Agrees, written_at, spoken, told, give_up_core}
-use Rattle.controller.proofs.Posts.{written_one, written_push, written_more}
+use Rattle.protocol.specs.Call.{unsealed, cramped}
+use Rattle.controller.proofs.Passes.{passes, roomy, quiet_agrees}
+use Rattle.protocol.specs.Change.{stable_of, held_for, helds_from, prepares_for, prepares_from, evidence, give_up_refusal, gave_up}
+use Rattle.controller.specs.declared.post.Post.{Post}
+use Rattle.controller.specs.Sending.{Sent}
+use Rattle.controller.specs.Agree.{Agrees, spoken, told, give_up_core}
+use Rattle.controller.proofs.Posts.{sent_more, sent_long}
 use Rattle.wire.specs.declared.kinds.Kind.TheVariants.{Prepare, Checkpoint}
 
 pub length-helds : (signer target s : ℕ) (ps : List Place) → length (helds_from signer target s ps) ≡ length ps
@@ -31,28 +32,43 @@ helds_push signer target s (q ∷ ps) p =
     let e : s + 1 + length ps ≡ s + length (q ∷ ps) = omega arith in
     ap (λ l. held_for signer target s q.certificate ∷ l) (helds_push signer target (s + 1) ps p ∙ ap (λ n. helds_from signer target (s + 1) ps ++ held_for signer target n p.certificate ∷ []) e)
 
-pub held_more : (signer target s : ℕ) (ps : List Place) (i at : ℕ) (box box' : List Sealed) (x : Sealed) → i < length ps → at + i < length box → length box' ≡ length box
-    → box' ≡ written_at at (map unsealed (helds_from signer target s (take i ps))) box → x ≡ unsealed (held_for signer target (s + i) (get_or ps i past).certificate)
-    → set box' (at + i) x ≡ written_at at (map unsealed (helds_from signer target s (take (i + 1) ps))) box
-held_more signer target s ps i at box box' x lt room same is hx =
-    let before = helds_from signer target s (take i ps) in
-    let short = length-take-le i ps (omega arith) in
-    let long : i ≡ length (map unsealed before) = omega (arith, length-map before unsealed, length-helds signer target s (take i ps), short) in
-    let one = held_for signer target (s + i) (get_or ps i past).certificate in
-    let grown : helds_from signer target s (take (i + 1) ps) ≡ before ++ one ∷ [] =
+pub helds_more : (signer target s : ℕ) (ps : List Place) (i : ℕ) → i < length ps
+    → helds_from signer target s (take (i + 1) ps) ≡ helds_from signer target s (take i ps) ++ held_for signer target (s + i) (get_or ps i past).certificate ∷ []
+helds_more signer target s ps i lt =
     ap (helds_from signer target s) (take_more ps i past lt)
-    ∙ (helds_push signer target s (take i ps) (get_or ps i past) ∙ ap (λ n. before ++ held_for signer target (s + n) (get_or ps i past).certificate ∷ []) short) in
-    written_push at i (map unsealed before) x box box' is same long room
-    ∙ (ap (λ y. written_at at (map unsealed before ++ y ∷ []) box) hx
-    ∙ ap (λ l. written_at at l box) (sym (ap (map unsealed) grown ∙ map-append unsealed before (one ∷ []))))
+    ∙ (helds_push signer target s (take i ps) (get_or ps i past)
+    ∙ ap (λ n. helds_from signer target s (take i ps) ++ held_for signer target (s + n) (get_or ps i past).certificate ∷ []) (length-take-le i ps (omega arith)))
 
-pub vote_more : (f : Vote → Sealed) (vs : List Vote) (d : Vote) (i at : ℕ) (box box' : List Sealed) (x : Sealed) → i < length vs → at + i < length box → length box' ≡ length box
-    → box' ≡ written_at at (map f (take i vs)) box → x ≡ f (get_or vs i d) → set box' (at + i) x ≡ written_at at (map f (take (i + 1) vs)) box
-vote_more f vs d i at box box' x lt room same is hx =
-    let long : i ≡ length (map f (take i vs)) = omega (arith, length-map (take i vs) f, length-take-le i vs (omega arith)) in
-    written_push at i (map f (take i vs)) x box box' is same long room
-    ∙ (ap (λ y. written_at at (map f (take i vs) ++ y ∷ []) box) hx
-    ∙ ap (λ l. written_at at l box) (sym (ap (map f) (take_more vs i d lt) ∙ map-append f (take i vs) (get_or vs i d ∷ []))))
+pub held_more : (signer target s : ℕ) (ps : List Place) (i : ℕ) (p q r : Post) (x : Sealed) → i < length ps → p.sent + length ps ≤ length p.outbox.now
+    → Sent p q (map unsealed (helds_from signer target s (take i ps))) → x ≡ unsealed (held_for signer target (s + i) (get_or ps i past).certificate) → Sent q r (x ∷ [])
+    → Sent p r (map unsealed (helds_from signer target s (take (i + 1) ps)))
+held_more signer target s ps i p q r x lt room is hx next =
+    let before = helds_from signer target s (take i ps) in
+    let one = held_for signer target (s + i) (get_or ps i past).certificate in
+    let long : length (map unsealed before) ≡ i = length-map before unsealed ∙ (length-helds signer target s (take i ps) ∙ length-take-le i ps (omega arith)) in
+    sent_more p q r (map unsealed before) (x ∷ []) _
+    (ap (map unsealed) (helds_more signer target s ps i lt) ∙ (map-append unsealed before (one ∷ []) ∙ ap (λ y. map unsealed before ++ y ∷ []) (sym hx)))
+    (omega (arith, long)) is next
+
+pub held_room : (signer target s : ℕ) (ps : List Place) (i : ℕ) (p q : Post) → i < length ps → p.sent + length ps ≤ length p.outbox.now
+    → Sent p q (map unsealed (helds_from signer target s (take i ps))) → q.sent < length q.outbox.now
+held_room signer target s ps i p q lt room is =
+    let before = helds_from signer target s (take i ps) in
+    let long : length (map unsealed before) ≡ i = length-map before unsealed ∙ (length-helds signer target s (take i ps) ∙ length-take-le i ps (omega arith)) in
+    omega (arith, long, is.sent, sent_long p q (map unsealed before) is (omega (arith, long, is.sent)))
+
+pub vote_more : (f : Vote → Sealed) (vs : List Vote) (d : Vote) (i : ℕ) (p q r : Post) (x : Sealed) → i < length vs → p.sent + length vs ≤ length p.outbox.now
+    → Sent p q (map f (take i vs)) → x ≡ f (get_or vs i d) → Sent q r (x ∷ []) → Sent p r (map f (take (i + 1) vs))
+vote_more f vs d i p q r x lt room is hx next =
+    let long : length (map f (take i vs)) ≡ i = length-map (take i vs) f ∙ length-take-le i vs (omega arith) in
+    sent_more p q r (map f (take i vs)) (x ∷ []) _
+    (ap (map f) (take_more vs i d lt) ∙ (map-append f (take i vs) (get_or vs i d ∷ []) ∙ ap (λ y. map f (take i vs) ++ y ∷ []) (sym hx)))
+    (omega (arith, long)) is next
+
+pub vote_room : (f : Vote → Sealed) (vs : List Vote) (i : ℕ) (p q : Post) → i < length vs → p.sent + length vs ≤ length p.outbox.now → Sent p q (map f (take i vs)) → q.sent < length q.outbox.now
+vote_room f vs i p q lt room is =
+    let long : length (map f (take i vs)) ≡ i = length-map (take i vs) f ∙ length-take-le i vs (omega arith) in
+    omega (arith, long, is.sent, sent_long p q (map f (take i vs)) is (omega (arith, long, is.sent)))
 
 prepares_push : (s : ℕ) (ps : List Place) (p : Place) → prepares_from s (ps ++ p ∷ []) ≡ prepares_from s ps ++ prepares_for (s + length ps) p.certificate
 prepares_push s [] p = let e : s ≡ s + 0 = omega arith in append-nil (prepares_for s p.certificate) ∙ ap (λ n. prepares_for n p.certificate) e
@@ -68,17 +84,16 @@ prepares_more s ps i lt =
     ∙ ap (λ n. prepares_from s (take i ps) ++ prepares_for (s + n) (get_or ps i past).certificate) (length-take-le i ps (omega arith)))
 
 -- a certificate's prepares behind those before
-pub certificate_more : (s : ℕ) (ps : List Place) (i at n k : ℕ) (box box' box'' : List Sealed) → i < length ps → at + n ≤ length box
-    → n ≡ length (prepares_from s (take i ps)) → box' ≡ written_at at (prepares_from s (take i ps)) box
-    → k ≡ length (prepares_for (s + i) (get_or ps i past).certificate) → box'' ≡ written_at (at + n) (prepares_for (s + i) (get_or ps i past).certificate) box'
-    → (n + k ≡ length (prepares_from s (take (i + 1) ps))) × (box'' ≡ written_at at (prepares_from s (take (i + 1) ps)) box)
-certificate_more s ps i at n k box box' box'' lt room hn is hk next =
+pub certificate_more : (s : ℕ) (ps : List Place) (i : ℕ) (p q r : Post) (xs : List Sealed) → i < length ps → length ps ≤ 32 → p.sent + 352 ≤ length p.outbox.now
+    → Sent p q (prepares_from s (take i ps)) × (length (prepares_from s (take i ps)) ≤ 11 * i) → length xs ≤ 11 → xs ≡ prepares_for (s + i) (get_or ps i past).certificate → Sent q r xs
+    → Sent p r (prepares_from s (take (i + 1) ps)) × (length (prepares_from s (take (i + 1) ps)) ≤ 11 * (i + 1))
+certificate_more s ps i p q r xs lt long room is few same next =
     let front = prepares_from s (take i ps) in
-    let one = prepares_for (s + i) (get_or ps i past).certificate in
-    let more = prepares_more s ps i lt in (
-      omega (arith, ap length more, length-append front one),
-      next ∙ ((λ j. written_at (at + hn j) one (is j)) ∙ (written_more at front one box (omega arith) ∙ ap (λ l. written_at at l box) (sym more))),
-    )
+    let all : prepares_from s (take (i + 1) ps) ≡ front ++ xs = prepares_more s ps i lt ∙ ap (λ l. front ++ l) (sym same) in
+    (sent_more p q r front xs _ all (omega (arith, is.1)) is.0 next, omega (arith, ap length all, length-append front xs, is.1))
+
+pub certificate_room : (p q : Post) (xs : List Sealed) (i n : ℕ) → i < 32 → n ≤ 11 → p.sent + 352 ≤ length p.outbox.now → Sent p q xs → length xs ≤ 11 * i → q.sent + n ≤ length q.outbox.now
+certificate_room p q xs i n lt few room is long = omega (arith, is.sent, sent_long p q xs is (omega (arith, is.sent)))
 
 pub certificate_votes : (number : ℕ) (o : Option Certificate) (k : Certificate) (slice : List Vote) → o ≡ Some k → held_votes o ≤ 11 → slice ≡ votes_of k.prepares
     → (length slice ≡ length (prepares_for number o)) × (length slice ≤ 11) × (map (spoken Prepare k.epoch number) slice ≡ prepares_for number o)
@@ -89,61 +104,53 @@ certificate_votes number o k slice is few same =
       all,
     )
 
-pub tell_made : (c : Core) (target signer : ℕ) (box box' : List Sealed) (x : Sealed) → 33 ≤ length box → x ≡ unsealed (stable_of (own c) target c.table.stable) → signer ≡ own c
-    → box' ≡ written_at 1 (map unsealed (helds_from signer target (c.table.stable + 1) c.table.places)) (set box 0 x)
-    → box' ≡ written_at 0 (map unsealed (told c target)) box
-tell_made c target signer box box' x room hx hs is =
+pub tell_made : (c : Core) (target signer : ℕ) (p q r : Post) (x : Sealed) → p.sent + 33 ≤ length p.outbox.now → x ≡ unsealed (stable_of (own c) target c.table.stable) → signer ≡ own c
+    → Sent p q (x ∷ []) → Sent q r (map unsealed (helds_from signer target (c.table.stable + 1) c.table.places)) → Sent p r (map unsealed (told c target))
+tell_made c target signer p q r x room hx hs first rest =
     let helds : ℕ → List Sealed = λ s. map unsealed (helds_from s target (c.table.stable + 1) c.table.places) in
-    let first = unsealed (stable_of (own c) target c.table.stable) in
-    is
-    ∙ ((λ i. written_at 1 (helds (hs i)) (set box 0 (hx i)))
-    ∙ (ap (written_at 1 (helds (own c))) (written_one 0 first box (omega arith))
-    ∙ written_more 0 (first ∷ []) (helds (own c)) box (omega arith)))
+    sent_more p q r (x ∷ []) (helds signer) _ (λ i. (sym hx i) ∷ helds (sym hs i)) (omega arith) first rest
 
-pub show_made : (t : Table) (slice : List Vote) (k : ℕ) (box box' box'' : List Sealed) → slice ≡ votes_of t.proof → 33 + length slice ≤ length box
-    → box' ≡ written_at 33 (map (spoken Checkpoint 0 t.stable) slice) box → k ≡ length (prepares_from (t.stable + 1) t.places)
-    → box'' ≡ written_at (33 + length slice) (prepares_from (t.stable + 1) t.places) box'
-    → (length slice + k ≡ length (evidence t)) × (box'' ≡ written_at 33 (evidence t) box)
-show_made t slice k box box' box'' same room is hk next =
+pub show_made : (t : Table) (slice : List Vote) (p q r : Post) → slice ≡ votes_of t.proof → p.sent + length slice ≤ length p.outbox.now
+    → Sent p q (map (spoken Checkpoint 0 t.stable) slice) → Sent q r (prepares_from (t.stable + 1) t.places) → Sent p r (evidence t)
+show_made t slice p q r same room first rest =
     let xs = map (spoken Checkpoint 0 t.stable) slice in
-    let ys = prepares_from (t.stable + 1) t.places in
-    let long : length slice ≡ length xs = sym (length-map slice (spoken Checkpoint 0 t.stable)) in
-    let all : xs ++ ys ≡ evidence t = ap (λ l. map (spoken Checkpoint 0 t.stable) l ++ ys) same in (
-      omega (arith, ap length all, length-append xs ys, long),
-      next ∙ ((λ i. written_at (33 + long i) ys (is i)) ∙ (written_more 33 xs ys box (omega (arith, long)) ∙ ap (λ l. written_at 33 l box) all)),
-    )
+    sent_more p q r xs (prepares_from (t.stable + 1) t.places) _ (ap (λ l. map (spoken Checkpoint 0 t.stable) l ++ prepares_from (t.stable + 1) t.places) (sym same))
+    (omega (arith, length-map slice (spoken Checkpoint 0 t.stable))) first rest
 
-pub give_made : (c : Core) (target : ℕ) (box box' box'' : List Sealed) → length c.table.places ≡ 32 → 400 ≤ length box
-    → box' ≡ written_at 0 (map unsealed (told c target)) box → box'' ≡ written_at 33 (evidence c.table) box'
-    → (length (told c target) ≡ 33) × (box'' ≡ written_at 0 (map unsealed (told c target) ++ evidence c.table) box)
-give_made c target box box' box'' long room is next =
-    let sts = told c target in
-    let n : length sts ≡ 33 = omega (arith, length-helds (own c) target (c.table.stable + 1) c.table.places) in
-    let at : 33 ≡ 0 + length (map unsealed sts) = omega (arith, length-map sts unsealed) in
-    (n, next ∙ ((λ i. written_at (at i) (evidence c.table) (is i)) ∙ written_more 0 (map unsealed sts) (evidence c.table) box (omega arith)))
+pub told_long : (c : Core) (target : ℕ) → length c.table.places ≡ 32 → length (told c target) ≡ 33
+told_long c target long = omega (arith, length-helds (own c) target (c.table.stable + 1) c.table.places)
+
+pub told_room : (c : Core) (target : ℕ) (p q : Post) → length c.table.places ≡ 32 → p.sent + 396 ≤ length p.outbox.now → Sent p q (map unsealed (told c target))
+    → (p.sent + length (map unsealed (told c target)) ≤ length p.outbox.now) × (q.sent + 363 ≤ length q.outbox.now)
+told_room c target p q long room is =
+    let n = length-map (told c target) unsealed ∙ told_long c target long in
+    (omega (arith, n), omega (arith, n, is.sent, sent_long p q (map unsealed (told c target)) is (omega (arith, n, is.sent))))
 
 -- no more votes behind the stable number than the largest quorum
 pub proof_few : (t : Table) (slice : List Vote) → slice ≡ votes_of t.proof → t.proof.count ≤ 11 → length slice ≤ 11
 proof_few t slice same few = omega (arith, ap length same, length-take (min t.proof.count 16) t.proof.list)
 
-pub gave_agrees : {X : Type 0} (c : Core) (x : X) (box : List Sealed) (o : Option Refusal) (c' : Core) (box' : List Sealed) (k : ℕ) (a : Answer)
-    → None ≡ o → c' ≡ give_up_core c → k ≡ length (evidence c.table) → length (told c (c.view.epoch + 1)) ≡ 33
-    → box' ≡ written_at 0 (map unsealed (told c (c.view.epoch + 1)) ++ evidence c.table) box
-    → a ≡ record { issued = 33; forwarded = k; first = 0; batches = 0; applied = 0; passed = 0 }
-    → Agrees (called c x box o (give_up_effect c x)) (Ok a) c' x box'
-gave_agrees c x box o c' box' k a none hc hk long is ha =
-    let all = map unsealed (told c (c.view.epoch + 1)) ++ evidence c.table in
-    let n : 0 + length all ≡ length all = omega arith in
-    subst (λ r. Agrees (called c x box r (give_up_effect c x)) (Ok a) c' x box') none
-    (record {
-      result = ap Ok (ha ∙ (λ i. record { issued = (sym long) i; forwarded = hk i; first = 0; batches = 0; applied = 0; passed = 0 }));
-      core = hc;
-      app = refl;
-      outbox = is ∙ ap (λ m. all ++ drop m box) n;
-    })
+pub gave_core : (c : Core) (target : ℕ) → target ≡ c.view.epoch + 1
+    → record { house = c.house; view = record { epoch = target; changing = true; leaders = c.view.leaders; first = c.view.first; last = c.view.last }; table = c.table; delivered = c.delivered; windows = c.windows } ≡ give_up_core c
+gave_core c target next = λ i. record {
+  house = c.house;
+  view = record { epoch = next i; changing = true; leaders = c.view.leaders; first = c.view.first; last = c.view.last };
+  table = c.table;
+  delivered = c.delivered;
+  windows = c.windows;
+}
 
-pub give_up_may : (c : Core) (outbox : List Sealed) → None ≡ give_up_refusal c outbox → (400 ≤ length outbox) × (last_epoch c.view.epoch ≡ false)
-give_up_may c outbox e =
-    let a = passes (cramped outbox) Room _ e in
-    let b = passes (last_epoch c.view.epoch) LastEpoch _ a.1 in
-    (roomy outbox a.0, b.0)
+pub gave_agrees : {X : Type 0} (c : Core) (x : X) (box box' : List Sealed) (start end : Post) (target : ℕ) (c' : Core) (k : ℕ) (a : Answer)
+    → (target ≡ c.view.epoch + 1) × (None ≡ give_up_refusal c box) → c' ≡ give_up_core c → start.outbox.now ≡ box → start.sent ≡ 0 → k ≡ length (evidence c.table) → length (told c target) ≡ 33
+    → Sent start end (map unsealed (told c target) ++ evidence c.table) → box' ≡ end.outbox.now
+    → a ≡ record { issued = 33; forwarded = k; first = 0; batches = 0; applied = 0; passed = 0 }
+    → Agrees (gave_up c x box) (Ok a) c' x box'
+gave_agrees c x box box' start end target c' k a ok hc at zeros hk long is out ha =
+    let next = c.view.epoch + 1 in
+    let all = subst (λ e. Sent start end (map unsealed (told c e) ++ evidence c.table)) ok.0 is in
+    let n : length (told c next) ≡ 33 = ap (λ e. length (told c e)) (sym ok.0) ∙ long in
+    quiet_agrees c (give_up_core c) x box box' start end (give_up_refusal c box) (told c next) (evidence c.table) c' a ok.1 hc at zeros all out
+    (ha ∙ (λ i. record { issued = sym n i; forwarded = hk i; first = 0; batches = 0; applied = 0; passed = 0 }))
+
+pub give_up_room : (c : Core) (outbox : List Sealed) → None ≡ give_up_refusal c outbox → 400 ≤ length outbox
+give_up_room c outbox e = roomy outbox (passes (cramped outbox) Room _ e).0

@@ -1,55 +1,44 @@
 -- What a vote does to a table, and that it keeps it tame.
-use Rattle.std.proofs.Common.{◌≡◌, ℕ, ◌+◌, ◌-◌, ◌%◌, ◌<◌, ◌≤◌, min, Bool, true, false, cond, not, ◌&&◌, ◌||◌, eqb, ltb, leb, List, [], ◌∷◌, map, length, drop, set, is_some, Some, None, Option, sym, refl, ap, ◌∙◌, arith}
-use Rattle.std.proofs.lemmas.Bool.{or_parts, ltb-false, cond-true, cond_both}
+use Rattle.std.proofs.Common.{◌≡◌, ℕ, ◌+◌, ◌-◌, ◌%◌, ◌≤◌, min, Bool, true, false, cond, not, ◌&&◌, ◌||◌, eqb, ltb, leb, List, [], ◌∷◌, map, length, drop, is_some, Some, None, Option, sym, refl, ap, ◌∙◌, subst, arith}
+use Rattle.std.proofs.lemmas.List.{length-map}
+use Rattle.std.proofs.lemmas.Bool.{or_parts, ltb-false, cond-false, cond_both}
 use Rattle.wire.specs.declared.records.DigestValue.{DigestValue}
 use Rattle.wire.specs.declared.records.Statement.{Statement}
 use Rattle.wire.specs.declared.records.Sealed.{Sealed}
 use Rattle.quorum.specs.Sizes.{faults, quorum}
 use Rattle.group.specs.Group.{list_fault}
 use Rattle.group.proofs.Groups.{groups}
-use Rattle.table.specs.declared.records.Ballot.{Ballot}
 use Rattle.table.specs.declared.records.Ballots.{Ballots}
 use Rattle.table.specs.declared.records.Votes.{Votes}
 use Rattle.table.specs.declared.records.Table.{Table}
 use Rattle.table.specs.Ballots.{backers, listed, just_backed, vote_signer}
 use Rattle.table.specs.Places.{prepared, committed, certified}
-use Rattle.table.specs.Window.{in_window, place_at, prepare_at, certify_at, row_at, move_to}
+use Rattle.table.specs.Window.{in_window, place_at, certify_at, row_at, move_to}
 use Rattle.protocol.specs.declared.records.Core.{Core}
-use Rattle.controller.specs.declared.progress.Progress.{Progress}
+use Rattle.controller.specs.declared.post.Post.{Post}
 use Rattle.protocol.specs.declared.refusal.Refusal.TheVariants.{Room, Signer, Kind, Epoch, Number}
 use Rattle.protocol.specs.State.{size, own, enough, with_table, limit}
 use Rattle.protocol.specs.Call.{cramped, unsealed}
 use Rattle.protocol.specs.Delivery.{begin}
 use Rattle.protocol.specs.Vote.{of_epoch, no_vote_kind, not_voted, vote_refusal, ballot_of, commit_of, with_prepare, now_prepared, prepare_table, prepare_issued, commit_table, with_checkpoint, checkpoint_table, vote_table, vote_issued}
 use Rattle.controller.specs.Sound.{Sound}
-use Rattle.controller.specs.Agree.{said, written_at, Voted, Reached, issued_only, no_progress}
+use Rattle.controller.specs.Sending.{Sent}
+use Rattle.controller.specs.Agree.{Voted, Reached, no_progress}
 use Rattle.controller.proofs.Kept.{Tame, tame_with, few_drop, few_append}
 use Rattle.controller.proofs.Passes.{passes, roomy, tame}
-use Rattle.controller.proofs.Posts.{written_one}
+use Rattle.controller.proofs.Posts.{sent_none, sent_long}
 use Rattle.wire.specs.declared.kinds.Kind.TheVariants.{Prepare, Commit, Checkpoint}
 use Rattle.wire.specs.Kinds.{same_kind}
 
--- the q-th prepare
-pub prepared_voted : (c : Core) (v : Sealed) (box : List Sealed) (t₁ t₂ : Table) (b : Ballot) (x : Sealed) (p : Progress) → 0 < length box
-    → b ≡ ballot_of v → t₁ ≡ prepare_at c.table v.statement.number v.statement.signer b
-    → true ≡ just_backed (size c) (enough c) v.statement.digest (place_at t₁ v.statement.number).prepares
-    → t₂ ≡ certify_at t₁ v.statement.number c.view.epoch v.statement.digest
-    → x ≡ unsealed (said Commit (own c) c.view.epoch v.statement.number v.statement.digest)
-    → p ≡ record { issued = 1; batches = 0; applied = 0; passed = 0 }
-    → Voted c box (prepare_table c v) (prepare_issued c v) (record { house = c.house; view = c.view; table = t₂; delivered = c.delivered; windows = c.windows }) (set box 0 x) p
-prepared_voted c v box t₁ t₂ b x p room hb h₁ full h₂ hx hp =
+-- a checkpoint, which is neither prepare nor commit
+pub other_voted : (c : Core) (v : Sealed) (post : Post) (c' : Core) → same_kind v.statement.kind Prepare ≡ false → same_kind v.statement.kind Commit ≡ false → c' ≡ with_table c (checkpoint_table c v)
+    → Voted c (vote_table c v) (vote_issued c v) post c' post
+other_voted c v post c' n₃ n₄ is =
     let st = v.statement in
-    let at : t₁ ≡ with_prepare c v = h₁ ∙ ap (prepare_at c.table st.number st.signer) hb in
-    let yes_now : now_prepared c v ≡ true = sym (full ∙ ap (λ (t : Table). just_backed (size c) (enough c) st.digest (place_at t st.number).prepares) at) in
-    let said-one = commit_of (own c) c.view.epoch st.number st.digest in
-    let issued : prepare_issued c v ≡ said-one ∷ [] = cond-true (now_prepared c v) (said-one ∷ []) [] yes_now in
-    let table : t₂ ≡ prepare_table c v =
-    h₂ ∙ (ap (λ t. certify_at t st.number c.view.epoch st.digest) at
-    ∙ sym (cond-true (now_prepared c v) (certify_at (with_prepare c v) st.number c.view.epoch st.digest) (with_prepare c v) yes_now)) in
+    let table = cond-false (same_kind st.kind Prepare) (prepare_table c v) (cond (same_kind st.kind Commit) (commit_table c v) (checkpoint_table c v)) n₃ ∙ cond-false (same_kind st.kind Commit) (commit_table c v) (checkpoint_table c v) n₄ in
     record {
-      core = ap (with_table c) table;
-      outbox = ap (set box 0) hx ∙ (written_one 0 (unsealed said-one) box room ∙ sym (ap (λ l. written_at 0 (map unsealed l) box) issued));
-      progress = hp ∙ sym (ap issued_only issued);
+      core = is ∙ ap (with_table c) (sym table);
+      out = subst (λ l. Sent post post (map unsealed l)) (sym (cond-false (same_kind st.kind Prepare) (prepare_issued c v) [] n₃)) (sent_none post);
     }
 
 few_one : (b : Bool) (st : Statement) → length (cond b (st ∷ []) []) ≤ 1
@@ -60,6 +49,13 @@ pub vote_few : (c : Core) (v : Sealed) → length (vote_issued c v) ≤ 1
 vote_few c v =
     let st = v.statement in
     cond_both (same_kind st.kind Prepare) (prepare_issued c v) [] (λ l. length l ≤ 1) (λ _. few_one (now_prepared c v) (commit_of (own c) c.view.epoch st.number st.digest)) (λ _. omega arith)
+
+-- what a vote issues leaves room
+pub vote_left : (c : Core) (v : Sealed) (p q : Post) → p.sent ≡ 0 → 400 ≤ length p.outbox.now → Sent p q (map unsealed (vote_issued c v))
+    → (q.sent ≤ length p.outbox.now) × (q.sent + 32 ≤ length q.outbox.now)
+vote_left c v p q zeros room is =
+    let few : q.sent ≤ 1 = omega (arith, is.sent, length-map (vote_issued c v) unsealed, vote_few c v, zeros) in
+    (omega (arith, few, room), omega (arith, few, room, sent_long p q (map unsealed (vote_issued c v)) is (omega (arith, few, room))))
 
 -- TAME
 
@@ -149,13 +145,6 @@ module _ (accepts : Statement → ℕ → Bool) (c : Core) (outbox : List Sealed
         (λ n₄. tame_checkpoint (low_number n₃ n₄)))
 
 -- what was voted is where a delivery begins
-pub voted_reached : {X : Type 0} (next : X → ℕ → ℕ → ℕ → X) (marked : X → ℕ) (c : Core) (box : List Sealed) (t : Table) (issued : List Statement) (c' : Core) (x : X) (box' : List Sealed) (p : Progress)
-    → Voted c box t issued c' box' p → Reached (with_table c t) box no_progress (begin next marked (with_table c t) x issued) c' x box' p
-voted_reached next marked c box t issued c' x box' p is =
-    let n : length issued ≡ 0 + length issued = omega arith in
-    record {
-      core = is.core;
-      app = refl;
-      outbox = is.outbox;
-      progress = is.progress ∙ (λ i. record { issued = n i; batches = 0; applied = 0; passed = 0 });
-    }
+pub voted_reached : {X : Type 0} (next : X → ℕ → ℕ → ℕ → X) (marked : X → ℕ) (c : Core) (t : Table) (issued : List Statement) (post : Post) (c' : Core) (x : X) (post' : Post)
+    → Voted c t issued post c' post' → Reached (with_table c t) post no_progress (begin next marked (with_table c t) x issued) c' x post' no_progress
+voted_reached next marked c t issued post c' x post' is = record { core = is.core; app = refl; out = is.out; progress = refl }

@@ -1,22 +1,22 @@
 -- What the code of the calls is held against: a step's parts, and parts of the definitions under names of their own.
-use Rattle.std.specs.Prelude.{◌≡◌, ℕ, ◌+◌, ◌%◌, ◌≤◌, cond, List, [], ◌∷◌, ◌++◌, map, length, take, drop, Some, Option, Result, ◌==◌}
+use Rattle.std.specs.Prelude.{◌≡◌, ℕ, ◌+◌, ◌%◌, ◌≤◌, cond, List, [], ◌∷◌, map, length, Option, Result, ◌==◌}
 use Rattle.wire.specs.declared.records.DigestValue.{DigestValue}
 use Rattle.wire.specs.declared.records.Statement.{Statement}
 use Rattle.wire.specs.declared.records.Sealed.{Sealed}
-use Rattle.wire.specs.declared.records.Request.{Request}
-use Rattle.wire.specs.Frames.{stored}
 use Rattle.table.specs.declared.records.Vote.{Vote}
 use Rattle.table.specs.declared.records.Table.{Table}
-use Rattle.table.specs.Window.{enter_all, fill_at, supply_at, move_to}
+use Rattle.table.specs.Window.{enter_all, move_to}
 use Rattle.dossier.specs.declared.parts.Opened.{Opened}
 use Rattle.protocol.specs.declared.records.Core.{Core}
 use Rattle.protocol.specs.declared.records.Answer.{Answer}
+use Rattle.controller.specs.declared.post.Post.{Post}
 use Rattle.controller.specs.declared.progress.Progress.{Progress}
 use Rattle.protocol.specs.declared.refusal.Refusal.{Refusal}
 use Rattle.protocol.specs.State.{size, own, enough, with_view, with_table}
 use Rattle.protocol.specs.Change.{turned, given_up, stable_of, helds_from}
 use Rattle.protocol.specs.Delivery.{Flow, checkpoint_of}
 use Rattle.protocol.specs.Call.{Step, unsealed}
+use Rattle.controller.specs.Sending.{Sent}
 use Rattle.protocol.specs.Enter.{base_proof, choices, entered_view, prepares_chosen}
 use Rattle.wire.specs.declared.kinds.Kind.{Kind}
 
@@ -31,16 +31,9 @@ pub record Agrees {X : Type 0} (s : Step X) (r : Result Answer Refusal) (c : Cor
 abbrev pub turn_core : Core → Core
 turn_core c = with_view c (turned (size c) c.view) (enter_all c.table [])
 
-abbrev pub offer_core : Core → Sealed → List Request → Core
-offer_core c p rs = with_table c (fill_at c.table p.statement.number p.statement.digest (Some (stored rs)))
-
 -- a statement that holds no epoch
 abbrev pub said : Kind → ℕ → ℕ → ℕ → DigestValue → Statement
 said kind signer epoch number digest = record { kind = kind; signer = signer; epoch = epoch; number = number; held = 0; digest = digest }
-
--- sent from a place of the outbox on; its other places stay
-abbrev pub written_at : ℕ → List Sealed → List Sealed → List Sealed
-written_at at sent outbox = take at outbox ++ (sent ++ drop (at + length sent) outbox)
 
 -- DELIVERY
 
@@ -55,27 +48,26 @@ core_after c f = record { house = c.house; view = c.view; table = c.table; deliv
 -- the counts after a delivery
 abbrev pub progress_after : {X : Type 0} → Progress → Flow X → Progress
 progress_after p f = record {
-  issued = p.issued + length f.issued;
   batches = p.batches + length f.batches;
   applied = p.applied + f.applied;
   passed = p.passed + f.passed;
 }
 
--- core, application, outbox and counts are those that a delivery leads to, from a core, an outbox and counts on
-pub record Reached {X : Type 0} (c : Core) (box : List Sealed) (p : Progress) (f : Flow X) (c' : Core) (x' : X) (box' : List Sealed) (p' : Progress) : Type 0 where
+-- core, application, post and counts are those that a delivery leads to, from a core, a post and counts on
+pub record Reached {X : Type 0} (c : Core) (post : Post) (p : Progress) (f : Flow X) (c' : Core) (x' : X) (post' : Post) (p' : Progress) : Type 0 where
   pub core : c' ≡ core_after c f
   pub app : x' ≡ f.app
-  pub outbox : box' ≡ written_at p.issued (map unsealed f.issued) box
+  pub out : Sent post post' (map unsealed f.issued)
   pub progress : p' ≡ progress_after p f
 
 -- counts that leave room for more
 abbrev pub Small : Progress → Type 0
-Small p = (p.issued ≤ 100) × (p.batches ≤ 100) × (p.applied ≤ 1000) × (p.passed ≤ 1000)
+Small p = (p.batches ≤ 100) × (p.applied ≤ 1000) × (p.passed ≤ 1000)
 
--- the answer of a call that delivered so much after a number
-abbrev pub answered : ℕ → Progress → Answer
-answered d p = record {
-  issued = p.issued;
+-- the answer of a call that issued so many statements and delivered so much after a number
+abbrev pub answered : ℕ → ℕ → Progress → Answer
+answered issued d p = record {
+  issued = issued;
   forwarded = 0;
   first = cond (p.batches == 0) 0 (d + 1);
   batches = p.batches;
@@ -85,27 +77,19 @@ answered d p = record {
 
 -- counts of a call that has delivered one batch at most
 abbrev pub Begun : Progress → Type 0
-Begun p = (p.issued ≤ 2) × (p.batches ≤ 1) × (p.applied ≤ 16) × (p.passed ≤ 16)
+Begun p = (p.batches ≤ 1) × (p.applied ≤ 16) × (p.passed ≤ 16)
 
 -- what one batch adds at most
 abbrev pub More : Progress → Progress → Type 0
-More p q = (q.issued ≤ p.issued + 1) × (q.batches ≤ p.batches + 1) × (q.applied ≤ p.applied + 16) × (q.passed ≤ p.passed + 16)
+More p q = (q.batches ≤ p.batches + 1) × (q.applied ≤ p.applied + 16) × (q.passed ≤ p.passed + 16)
 
 abbrev pub no_progress : Progress
-no_progress = record { issued = 0; batches = 0; applied = 0; passed = 0 }
+no_progress = record { batches = 0; applied = 0; passed = 0 }
 
-abbrev pub supply_core : Core → ℕ → List Request → Core
-supply_core c s rs = with_table c (supply_at c.table s (stored rs))
-
--- statements that were issued before anything is delivered
-abbrev pub issued_only : List Statement → Progress
-issued_only sts = record { issued = length sts; batches = 0; applied = 0; passed = 0 }
-
--- an accepted vote: its table, what it issues, and the outbox then
-pub record Voted (c : Core) (box : List Sealed) (t : Table) (issued : List Statement) (c' : Core) (box' : List Sealed) (p : Progress) : Type 0 where
+-- an accepted vote: its table, and what it issues
+pub record Voted (c : Core) (t : Table) (issued : List Statement) (post : Post) (c' : Core) (post' : Post) : Type 0 where
   pub core : c' ≡ with_table c t
-  pub outbox : box' ≡ written_at 0 (map unsealed issued) box
-  pub progress : p ≡ issued_only issued
+  pub out : Sent post post' (map unsealed issued)
 
 -- a vote as a statement of a kind, an epoch and a number
 abbrev pub spoken : Kind → ℕ → ℕ → Vote → Sealed

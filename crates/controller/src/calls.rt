@@ -16,8 +16,8 @@ use crate::deliver::{deliver_one, deliver_ready};
 use crate::enter::accept_enter;
 use crate::give_up::accept_give_up;
 use crate::offer::accept_offer;
+use crate::post::Post;
 use crate::progress::Progress;
-use crate::supply::accept_supply;
 use crate::turn::accept_turn;
 use crate::vote::accept_vote;
 use application::interface::Application;
@@ -35,10 +35,7 @@ fn quiet(issued: usize, forwarded: usize) -> Answer
     Answer {
         issued,
         forwarded,
-        first: 0,
-        batches: 0,
-        applied: 0,
-        passed: 0,
+        ..Answer::default()
     }
 }
 
@@ -47,14 +44,12 @@ impl<D: Digest + Drop, A: Application + Drop> Controller<D, A> {
     pub fn open(n: u8, own: u8, digest: D, app: A) -> Result<Controller<D, A>, Refusal>
         ensures { MatchResult result (λ k. (no_house n own ≡ false) × (k.core.house.n ≡ n) × (k.core.house.own ≡ own) × (k.core ≡ new_core k.core.house) × (k.digest ≡ digest) × (k.app ≡ app)) (λ e. (no_house n own ≡ true) × (e ≡ Refusal.House)) }
     {
-        match House::new(n, own) {
-            Ok(house) => Ok(Controller {
-                core: Core::new(house),
-                digest,
-                app,
-            }),
-            Err(_) => Err(Refusal::House),
-        }
+        let house = House::new(n, own).map_err(|_| Refusal::House)?;
+        Ok(Controller {
+            core: Core::new(house),
+            digest,
+            app,
+        })
     }
 }
 
@@ -69,16 +64,12 @@ impl<D: Digest, A: Application> Controller<D, A> {
         ensures agrees { Agrees (offered (C.accepts checker.now) (D.value self.old.digest) self.old.core self.old.app outbox.old proposal.now requests.now) result self.new.core self.new.app outbox.new }
         ensures digest { self.new.digest ≡ self.old.digest }
     {
-        match self
+        let batch = self
             .core
-            .refuses_offer(checker, &self.digest, proposal, requests, outbox)
-        {
-            Some(refusal) => Err(refusal),
-            None => {
-                accept_offer(&mut self.core, proposal, requests, outbox);
-                Ok(quiet(1, 0))
-            }
-        }
+            .check_offer(checker, &self.digest, proposal, requests, outbox)?;
+        let mut post = Post::new(outbox);
+        accept_offer(&mut self.core, proposal, batch, &mut post);
+        Ok(quiet(1, 0))
     }
 
     pub fn vote<C: SealChecker>(
@@ -90,15 +81,13 @@ impl<D: Digest, A: Application> Controller<D, A> {
         ensures agrees { Agrees (voted A.next A.marked (C.accepts checker.now) self.old.core self.old.app outbox.old vote.now) result self.new.core self.new.app outbox.new }
         ensures digest { self.new.digest ≡ self.old.digest }
     {
-        match self.core.refuses_vote(checker, vote, outbox) {
-            Some(refusal) => Err(refusal),
-            None => {
-                let before = self.core.delivered;
-                let issued = accept_vote(&mut self.core, vote, outbox);
-                let progress = deliver_ready(&mut self.core, &mut self.app, outbox, issued);
-                Ok(progress.answer(before))
-            }
-        }
+        self.core.check_vote(checker, vote, outbox)?;
+        let before = self.core.delivered;
+        let mut post = Post::new(outbox);
+        accept_vote(&mut self.core, vote, &mut post);
+        let none = Progress::default();
+        let progress = deliver_ready(&mut self.core, &mut self.app, &mut post, none);
+        Ok(progress.answer(post.sent, before))
     }
 
     pub fn supply(
@@ -110,23 +99,15 @@ impl<D: Digest, A: Application> Controller<D, A> {
         ensures agrees { Agrees (supplied A.next A.marked (D.value self.old.digest) self.old.core self.old.app outbox.old number requests.now) result self.new.core self.new.app outbox.new }
         ensures digest { self.new.digest ≡ self.old.digest }
     {
-        match self
+        let batch = self
             .core
-            .refuses_supply(&self.digest, number, requests, outbox)
-        {
-            Some(refusal) => Err(refusal),
-            None => {
-                let before = self.core.delivered;
-                accept_supply(&mut self.core, number, requests);
-                let progress = deliver_ready(
-                    &mut self.core,
-                    &mut self.app,
-                    outbox,
-                    Progress::none(),
-                );
-                Ok(progress.answer(before))
-            }
-        }
+            .check_supply(&self.digest, number, requests, outbox)?;
+        let before = self.core.delivered;
+        let mut post = Post::new(outbox);
+        self.core.table.supply(number, batch);
+        let none = Progress::default();
+        let progress = deliver_ready(&mut self.core, &mut self.app, &mut post, none);
+        Ok(progress.answer(post.sent, before))
     }
 
     pub fn prove<C: SealChecker>(
@@ -140,32 +121,25 @@ impl<D: Digest, A: Application> Controller<D, A> {
         ensures agrees { Agrees (proved A.next A.marked (C.accepts checker.now) (D.value self.old.digest) self.old.core self.old.app outbox.old number requests.now commits.now) result self.new.core self.new.app outbox.new }
         ensures digest { self.new.digest ≡ self.old.digest }
     {
-        match self
+        let batch = self
             .core
-            .refuses_prove(checker, &self.digest, number, requests, commits, outbox)
-        {
-            Some(refusal) => Err(refusal),
-            None => {
-                let before = self.core.delivered;
-                let none = Progress::none();
-                let first = deliver_one(&mut self.core, &mut self.app, requests, outbox, none);
-                let progress = deliver_ready(&mut self.core, &mut self.app, outbox, first);
-                Ok(progress.answer(before))
-            }
-        }
+            .check_prove(checker, &self.digest, number, requests, commits, outbox)?;
+        let before = self.core.delivered;
+        let mut post = Post::new(outbox);
+        let none = Progress::default();
+        let first = deliver_one(&mut self.core, &mut self.app, &batch, &mut post, none);
+        let progress = deliver_ready(&mut self.core, &mut self.app, &mut post, first);
+        Ok(progress.answer(post.sent, before))
     }
 
     pub fn give_up(&mut self, outbox: &mut [Sealed]) -> Result<Answer, Refusal>
         ensures agrees { Agrees (gave_up self.old.core self.old.app outbox.old) result self.new.core self.new.app outbox.new }
         ensures digest { self.new.digest ≡ self.old.digest }
     {
-        match self.core.refuses_give_up(outbox) {
-            Some(refusal) => Err(refusal),
-            None => {
-                let forwarded = accept_give_up(&mut self.core, outbox);
-                Ok(quiet(33, forwarded))
-            }
-        }
+        let epoch = self.core.check_give_up(outbox)?;
+        let mut post = Post::new(outbox);
+        let forwarded = accept_give_up(&mut self.core, epoch, &mut post);
+        Ok(quiet(33, forwarded))
     }
 
     pub fn enter<C: SealChecker>(
@@ -178,25 +152,18 @@ impl<D: Digest, A: Application> Controller<D, A> {
         ensures agrees { Agrees (entered (C.accepts checker.now) self.old.core self.old.app outbox.old new.now records.now) result self.new.core self.new.app outbox.new }
         ensures digest { self.new.digest ≡ self.old.digest }
     {
-        match self.core.judge(checker, new, records, outbox) {
-            Err(refusal) => Err(refusal),
-            Ok(opened) => {
-                let issued = accept_enter(&mut self.core, new, records, &opened, outbox);
-                Ok(quiet(issued, 0))
-            }
-        }
+        let opened = self.core.judge(checker, new, records, outbox)?;
+        let mut post = Post::new(outbox);
+        accept_enter(&mut self.core, new, records, &opened, &mut post);
+        Ok(quiet(post.sent, 0))
     }
 
     pub fn turn(&mut self, outbox: &mut [Sealed]) -> Result<Answer, Refusal>
         ensures agrees { Agrees (took_turn self.old.core self.old.app outbox.old) result self.new.core self.new.app outbox.new }
         ensures digest { self.new.digest ≡ self.old.digest }
     {
-        match self.core.refuses_turn(outbox) {
-            Some(refusal) => Err(refusal),
-            None => {
-                accept_turn(&mut self.core);
-                Ok(quiet(0, 0))
-            }
-        }
+        let epoch = self.core.check_turn(outbox)?;
+        accept_turn(&mut self.core, epoch);
+        Ok(quiet(0, 0))
     }
 }

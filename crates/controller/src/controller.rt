@@ -5,6 +5,8 @@ use application::interface::Application;
 use digest::interface::Digest;
 use protocol::records::Core;
 
+// The fact stands here and in no ghost field of the core: the definitions build cores as plain records,
+// for every input, and would each owe a proof. So private functions ask for the parts that they need.
 #[derive(Drop)]
 pub struct Controller<D: Digest, A: Application> {
     pub(crate) core: Core,

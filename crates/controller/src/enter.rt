@@ -1,14 +1,16 @@
 // Enter: a primary begins an epoch with a dossier.
-ghost use Rattle.std.specs.Prelude.{◌≡◌, ◌+◌, ◌<◌, ◌≤◌, [], ◌∷◌, map, length, slice_set};
+ghost use Rattle.std.specs.Prelude.{◌≡◌, ◌+◌, ◌<◌, ◌≤◌, map, length, slice_set};
 ghost use Rattle.table.specs.Ballots.{listed};
 ghost use Rattle.protocol.specs.Call.{unsealed};
 ghost use Rattle.protocol.specs.Enter.{as_vote, choices, prepares_chosen};
 ghost use Rattle.controller.specs.Sound.{Sound};
-ghost use Rattle.controller.specs.Agree.{written_at, enter_core, enter_issued};
+ghost use Rattle.controller.specs.Sending.{Sent};
+ghost use Rattle.controller.specs.Agree.{enter_core, enter_issued};
 
-use crate::post::said;
+use crate::post::{Post, said};
 use dossier::parts::Opened;
 use protocol::records::{Core, View};
+use std::array;
 use table::records::{Vote, Votes};
 use wire::kinds::Kind;
 use wire::records::{DigestValue, Sealed};
@@ -49,77 +51,48 @@ fn choices(opened: &Opened, s: u64) -> [Option<DigestValue>; 32]
     requires { s ≤ 1000000000001 }
     ensures { result ≡ choices opened.now s 32 }
 {
-    let mut chosen = [None; 32];
-    for k in 0..32usize {
-        chosen[k] = opened.chosen(s + k as u64);
-    }
-    chosen
+    array::from_fn(|k| opened.chosen(s + k as u64))
 }
 
-// A prepare for a number, if there is a choice for it; answers how many.
-fn issue_one(
-    signer: u8,
-    epoch: u32,
-    number: u64,
-    chosen: Option<DigestValue>,
-    at: usize,
-    outbox: &mut [Sealed],
-) -> usize
-    requires { at < length outbox.old }
-    ensures value { result ≡ length (prepares_chosen signer epoch number (chosen ∷ [])) }
-    ensures few { result ≤ 1 }
-    ensures outbox { outbox.new ≡ written_at at (map unsealed (prepares_chosen signer epoch number (chosen ∷ []))) outbox.old }
-{
-    match chosen {
-        Some(d) => {
-            outbox[at] = said(Kind::Prepare, signer, epoch, number, d);
-            1
-        }
-        None => 0,
-    }
-}
-
-// A prepare for each number that has a choice, from s on; answers how many.
+// A prepare for each number that has a choice, from s on.
 fn issue_prepares(
     signer: u8,
     epoch: u32,
     s: u64,
-    chosen: &[Option<DigestValue>],
-    outbox: &mut [Sealed],
-) -> usize
-    requires few { (length chosen.now ≤ 32) × (s ≤ 1000000000001) }
-    requires room { 32 ≤ length outbox.old }
-    ensures value { result ≡ length (prepares_chosen signer epoch s chosen.now) }
-    ensures outbox { outbox.new ≡ written_at 0 (map unsealed (prepares_chosen signer epoch s chosen.now)) outbox.old }
+    chosen: &[Option<DigestValue>; 32],
+    post: &mut Post<'_>,
+)
+    requires low { s ≤ 1000000000001 }
+    requires room { post.old.sent + 32 ≤ length post.old.outbox.now }
+    ensures { Sent post.old post.new (map unsealed (prepares_chosen signer epoch s chosen.now)) }
 {
-    let mut issued = 0;
-    for i in 0..chosen.len() {
-        issued += issue_one(signer, epoch, s + i as u64, chosen[i], issued, outbox);
+    for (i, choice) in chosen.iter().enumerate() {
+        if let Some(digest) = *choice {
+            post.push(said(Kind::Prepare, signer, epoch, s + i as u64, digest));
+        }
     }
-    issued
 }
 
-// The epoch begins; answers how many prepares are issued.
+// The epoch begins.
 pub(crate) fn accept_enter(
     core: &mut Core,
     new: &Sealed,
     records: &[Sealed],
     opened: &Opened,
-    outbox: &mut [Sealed],
-) -> usize
+    post: &mut Post<'_>,
+)
     requires sound { Sound core.old }
     requires low { opened.now.base ≤ 1000000000000 }
-    requires room { 32 ≤ length outbox.old }
+    requires room { post.old.sent + 32 ≤ length post.old.outbox.now }
     ensures core { core.new ≡ enter_core core.old new.now records.now opened.now }
-    ensures value { result ≡ length (enter_issued core.old new.now records.now opened.now) }
-    ensures outbox { outbox.new ≡ written_at 0 (map unsealed (enter_issued core.old new.now records.now opened.now)) outbox.old }
+    ensures post { Sent post.old post.new (map unsealed (enter_issued core.old new.now records.now opened.now)) }
 {
     let st = new.statement;
     let proof = votes_of(opened.checkpoints(records, core.house.quorum()));
     core.table.move_to(opened.base, proof);
     let s = core.table.stable + 1;
     let chosen = choices(opened, s);
-    let issued = issue_prepares(core.house.own(), st.epoch, s, &chosen, outbox);
+    issue_prepares(core.house.own(), st.epoch, s, &chosen, post);
     core.table.enter(&chosen);
     core.view = View {
         epoch: st.epoch,
@@ -128,5 +101,4 @@ pub(crate) fn accept_enter(
         first: opened.base + 1,
         last: Some(opened.base + 32),
     };
-    issued
 }

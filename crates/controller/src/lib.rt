@@ -10,6 +10,5 @@ mod offer;
 mod post;
 mod progress;
 pub mod reads;
-mod supply;
 mod turn;
 mod vote;

@@ -1,13 +1,12 @@
 // Vote: a prepare, a commit or a checkpoint is kept, and the q-th of its kind tells.
-ghost use Rattle.std.specs.Prelude.{◌≡◌, ◌<◌, true, [], length};
+ghost use Rattle.std.specs.Prelude.{◌≡◌, ◌<◌, true, length};
 ghost use Rattle.table.specs.Ballots.{just_backed};
 ghost use Rattle.table.specs.Window.{in_window, place_at};
 ghost use Rattle.protocol.specs.State.{size, enough, with_table};
 ghost use Rattle.protocol.specs.Vote.{ballot_of, prepare_table, prepare_issued, checkpoint_table, vote_table, vote_issued};
 ghost use Rattle.controller.specs.Agree.{Voted};
 
-use crate::post::said;
-use crate::progress::Progress;
+use crate::post::{Post, said};
 use protocol::records::Core;
 use table::records::Ballot;
 use wire::kinds::Kind;
@@ -27,34 +26,31 @@ fn is_prepared(core: &Core, s: u64, digest: &DigestValue) -> bool
     requires { in_window core.now.table s ≡ true }
     ensures { result ≡ just_backed (size core.now) (enough core.now) digest.now (place_at core.now.table s).prepares }
 {
-    match core.table.place(s) {
-        Some(p) => p
+    core.table.place(s).is_some_and(|place| {
+        place
             .prepares
-            .just_backed(core.house.n(), core.house.quorum(), digest),
-        None => false,
-    }
+            .just_backed(core.house.n(), core.house.quorum(), digest)
+    })
 }
 
 // The q-th prepare makes the certificate, and a commit is issued.
-fn accept_prepare(core: &mut Core, vote: &Sealed, outbox: &mut [Sealed]) -> Progress
+fn accept_prepare(core: &mut Core, vote: &Sealed, post: &mut Post<'_>)
     requires placed { in_window core.old.table vote.now.statement.number ≡ true }
-    requires room { 0 < length outbox.old }
-    ensures { Voted core.old outbox.old (prepare_table core.old vote.now) (prepare_issued core.old vote.now) core.new outbox.new result }
+    requires room { post.old.sent < length post.old.outbox.now }
+    ensures { Voted core.old (prepare_table core.old vote.now) (prepare_issued core.old vote.now) post.old core.new post.new }
 {
     let st = vote.statement;
     core.table.prepare(st.number, st.signer, ballot_of(vote));
-    if !is_prepared(core, st.number, &st.digest) {
-        return Progress::none();
+    if is_prepared(core, st.number, &st.digest) {
+        core.table.certify(st.number, core.view.epoch, st.digest);
+        post.push(said(
+            Kind::Commit,
+            core.house.own(),
+            core.view.epoch,
+            st.number,
+            st.digest,
+        ));
     }
-    core.table.certify(st.number, core.view.epoch, st.digest);
-    outbox[0] = said(
-        Kind::Commit,
-        core.house.own(),
-        core.view.epoch,
-        st.number,
-        st.digest,
-    );
-    Progress::issued(1)
 }
 
 // The q-th equal checkpoint makes its number stable.
@@ -69,19 +65,17 @@ fn accept_checkpoint(core: &mut Core, vote: &Sealed)
     }
 }
 
-pub(crate) fn accept_vote(core: &mut Core, vote: &Sealed, outbox: &mut [Sealed]) -> Progress
+pub(crate) fn accept_vote(core: &mut Core, vote: &Sealed, post: &mut Post<'_>)
     requires placed { in_window core.old.table vote.now.statement.number ≡ true }
-    requires room { 0 < length outbox.old }
-    ensures { Voted core.old outbox.old (vote_table core.old vote.now) (vote_issued core.old vote.now) core.new outbox.new result }
+    requires room { post.old.sent < length post.old.outbox.now }
+    ensures { Voted core.old (vote_table core.old vote.now) (vote_issued core.old vote.now) post.old core.new post.new }
 {
     let st = vote.statement;
     if st.kind == Kind::Prepare {
-        return accept_prepare(core, vote, outbox);
-    }
-    if st.kind == Kind::Commit {
+        accept_prepare(core, vote, post);
+    } else if st.kind == Kind::Commit {
         core.table.commit(st.number, st.signer, ballot_of(vote));
-        return Progress::none();
+    } else {
+        accept_checkpoint(core, vote);
     }
-    accept_checkpoint(core, vote);
-    Progress::none()
 }

@@ -9,7 +9,7 @@ pub struct View {
     pub epoch: u32,
     // the epoch is given up or not yet begun: nothing is proposed, prepared or committed
     pub changing: bool,
-    // the leader set: bit i for controller i
+    // the leader set: bit i for controller i, as a statement's digest holds it
     pub leaders: u64,
     // the epoch's numbers: from first on, up to last if there is one
     pub first: u64,
@@ -29,7 +29,7 @@ pub struct Core {
 
 // What an accepted call answers: how many statements it put into the outbox, issued and forwarded, the
 // first number that it delivered (0 if none), and how many batches and requests.
-#[derive(Clone, Copy)]
+#[derive(Clone, Copy, Default)]
 pub struct Answer {
     pub issued: usize,
     pub forwarded: usize,

@@ -1,10 +1,12 @@
 // Why a call is refused. A refused call changes nothing.
-ghost use Rattle.std.specs.Prelude.{◌≡◌};
-ghost use Rattle.protocol.specs.Refusals.{refusal_number};
+ghost use Rattle.std.specs.Prelude.{◌≡◌, Some};
+ghost use Rattle.protocol.specs.Refusals.{refusal_number, refusal_text};
 
+use std::error::Error;
+use std::fmt;
 use wire::faults::FrameFault;
 
-#[derive(Clone, Copy)]
+#[derive(Clone, Copy, PartialEq, Eq, Debug)]
 pub enum Refusal {
     // no house has so many controllers, or none of that number
     House,
@@ -64,3 +66,22 @@ impl Refusal {
         }
     }
 }
+
+// The number, and where the fault is.
+impl fmt::Display for Refusal {
+    ghost output = { λ r. Some (refusal_text r) };
+
+    fn fmt<W: fmt::Write>(&self, f: &mut fmt::Formatter<W>) -> fmt::Result {
+        let number = self.number();
+        match *self {
+            Refusal::Frame(fault) => {
+                let place = fault.place;
+                write!(f, "{number} place {place}")
+            }
+            Refusal::Request(at) | Refusal::Record(at) => write!(f, "{number} at {at}"),
+            _ => write!(f, "{number}"),
+        }
+    }
+}
+
+impl Error for Refusal {}

@@ -1,26 +1,31 @@
-// What each call is refused for: a test for each reason, in their order.
-ghost use Rattle.std.specs.Prelude.{◌≡◌, ◌<◌, ◌≤◌, true, is_some};
+// What each call is refused for: a check for each reason, in their order.
+ghost use Rattle.std.specs.Prelude.{◌≡◌, ◌<◌, ◌+◌, not, ◌||◌, ◌==◌, nat_le, true, false, cond, MatchResult};
+ghost use Rattle.wire.specs.Kinds.{same_kind};
+ghost use Rattle.wire.specs.Frames.{stored};
+ghost use Rattle.table.specs.Ballots.{has_ballot};
+ghost use Rattle.table.specs.Window.{place_at, row_at};
+ghost use Rattle.protocol.specs.Refusals.{ok_unless, Refuses};
+ghost use Rattle.protocol.specs.Call.{cramped};
 ghost use Rattle.protocol.specs.Offer.{above_last, not_offered, offer_refusal};
-ghost use Rattle.protocol.specs.Vote.{of_epoch, no_vote_kind, not_voted, vote_stands, vote_refusal};
+ghost use Rattle.protocol.specs.Vote.{of_epoch, no_vote_kind, not_voted, vote_refusal};
 ghost use Rattle.protocol.specs.Supply.{supply_refusal};
 ghost use Rattle.protocol.specs.Prove.{proved_digest, prove_refusal};
 ghost use Rattle.protocol.specs.Enter.{stale, no_set_of, new_refusal, Judged};
-ghost use Rattle.protocol.specs.Change.{undelivered, give_up_refusal, turn_refusal};
-ghost use Rattle.table.specs.Ballots.{has_ballot};
-ghost use Rattle.table.specs.Window.{in_window, place_at};
-ghost use Rattle.table.specs.Places.{proposes};
+ghost use Rattle.protocol.specs.Change.{last_epoch, undelivered, give_up_refusal, turn_refusal};
 
 use crate::leaders::{is_member, is_within, primary_of};
 use crate::records::{Core, View};
 use crate::refusal::Refusal;
-use crate::requests::is_no_batch;
+use crate::requests::batch_of;
 use digest::interface::Digest;
 use dossier::parts::{Opened, Terms};
 use dossier::target::Target;
 use group::check::commits_fault;
+use quorum::house::House;
 use seal::checker::SealChecker;
+use table::records::Place;
 use wire::kinds::Kind;
-use wire::records::{DigestValue, Request, Sealed, Statement};
+use wire::records::{Batch, DigestValue, Request, Sealed, Statement};
 
 // How many places an outbox has at least.
 const ROOM: usize = 400;
@@ -28,17 +33,56 @@ const ROOM: usize = 400;
 // No number above this is proposed, proved or made stable.
 const LIMIT: u64 = 1_000_000_000_000;
 
-// There is no epoch after this one.
-const LAST_EPOCH: u32 = 4_294_967_295;
+// The first check of every call.
+fn check_room(outbox: &[Sealed]) -> Result<(), Refusal>
+    ensures { Refuses (cramped outbox.now) Refusal.Room result }
+{
+    if outbox.len() < ROOM {
+        return Err(Refusal::Room);
+    }
+    Ok(())
+}
+
+fn check_signer(house: &House, signer: u8) -> Result<(), Refusal>
+    ensures { Refuses (nat_le house.now.n signer) Refusal.Signer result }
+{
+    if signer >= house.n() {
+        return Err(Refusal::Signer);
+    }
+    Ok(())
+}
+
+fn check_seal<C: SealChecker>(checker: &C, sealed: &Sealed) -> Result<(), Refusal>
+    ensures { Refuses (not (C.accepts checker.now sealed.now.statement sealed.now.seal)) Refusal.Seal result }
+{
+    if !checker.genuine(&sealed.statement, sealed.seal) {
+        return Err(Refusal::Seal);
+    }
+    Ok(())
+}
 
 impl View {
+    // Whether this is the epoch that is under way.
+    fn check_epoch(&self, epoch: u32) -> Result<(), Refusal>
+        ensures { Refuses (self.now.changing || not (epoch == self.now.epoch)) Refusal.Epoch result }
+    {
+        if self.changing || epoch != self.epoch {
+            return Err(Refusal::Epoch);
+        }
+        Ok(())
+    }
+
+    // The next epoch; there is none after the last.
+    fn next_epoch(&self) -> Result<u32, Refusal>
+        ensures { MatchResult result (λ e. (last_epoch self.now.epoch ≡ false) × (e ≡ self.now.epoch + 1)) (λ e. (last_epoch self.now.epoch ≡ true) × (e ≡ Refusal.LastEpoch)) }
+    {
+        self.epoch.checked_add(1).ok_or(Refusal::LastEpoch)
+    }
+
     fn is_above_last(&self, s: u64) -> bool
         ensures { result ≡ above_last self.now.last s }
     {
-        match self.last {
-            Some(last) => s > last,
-            None => false,
-        }
+        self.last.is_some_and(|last| s > last)
     }
 
     // Whether it is too late for an epoch to begin.
@@ -46,18 +90,16 @@ impl View {
         ensures { result ≡ stale self.now epoch }
     {
         if self.changing {
-            return epoch < self.epoch;
+            epoch < self.epoch
+        } else {
+            epoch <= self.epoch
         }
-        epoch <= self.epoch
     }
 
     fn is_undelivered(&self, d: u64) -> bool
         ensures { result ≡ undelivered self.now.last d }
     {
-        match self.last {
-            Some(last) => d < last,
-            None => true,
-        }
+        self.last.is_none_or(|last| d < last)
     }
 }
 
@@ -70,220 +112,145 @@ fn is_of_epoch(kind: Kind) -> bool
 fn is_no_vote_kind(st: &Statement) -> bool
     ensures { result ≡ no_vote_kind st.now }
 {
-    if !is_of_epoch(st.kind) && st.kind != Kind::Checkpoint {
-        return true;
-    }
-    st.held != 0 || (st.kind == Kind::Checkpoint && st.epoch != 0)
+    !(is_of_epoch(st.kind) || st.kind == Kind::Checkpoint)
+        || st.held != 0
+        || (st.kind == Kind::Checkpoint && st.epoch != 0)
 }
 
 // The digest that a list of commits is for.
 fn first_digest(commits: &[Sealed]) -> DigestValue
     ensures { result ≡ proved_digest commits.now }
 {
-    if commits.len() == 0 {
-        return DigestValue::from(0);
-    }
-    commits[0].statement.digest
+    commits
+        .first()
+        .map_or(DigestValue::from(0), |c| c.statement.digest)
 }
 
 // Whether the signer is not the primary, or the leader set lacks it or names no controller.
-fn is_no_set_of(n: u8, st: &Statement) -> bool
-    requires { (st.now.signer < n) × (n ≤ 16) }
-    ensures { result ≡ no_set_of n st.now }
+fn is_no_set_of(house: &House, st: &Statement) -> bool
+    requires { st.now.signer < house.now.n }
+    ensures { result ≡ no_set_of house.now.n st.now }
 {
     let leaders = st.digest.number();
-    st.signer != primary_of(n, st.epoch) || !is_member(leaders, st.signer) || !is_within(n, leaders)
+    st.signer != primary_of(house, st.epoch)
+        || !is_member(leaders, st.signer)
+        || !is_within(house, leaders)
 }
 
 impl Core {
-    // Whether a number is not to be proposed now.
-    fn is_not_offered(&self, s: u64) -> bool
-        ensures { result ≡ not_offered self.now s }
+    // The place of a number that may be proposed now.
+    fn offered_place(&self, s: u64) -> Result<&Place, Refusal>
+        ensures { MatchResult result (λ p. (not_offered self.now s ≡ false) × (p.now ≡ place_at self.now.table s)) (λ e. (not_offered self.now s ≡ true) × (e ≡ Refusal.Number)) }
     {
-        if s <= self.table.stable {
-            return true;
+        let place = self.table.place(s).ok_or(Refusal::Number)?;
+        if s <= self.delivered || s < self.view.first || self.view.is_above_last(s) || s > LIMIT {
+            return Err(Refusal::Number);
         }
-        s <= self.delivered
-            || s < self.view.first
-            || self.view.is_above_last(s)
-            || s - self.table.stable > 32
-            || s > LIMIT
+        Ok(place)
     }
 
-    // Whether a number's place is filled; a number without a place counts as not filled.
-    fn is_filled(&self, s: u64) -> bool
-        requires { in_window self.now.table s ≡ true }
-        ensures { result ≡ is_some (place_at self.now.table s).proposal }
-    {
-        match self.table.place(s) {
-            Some(p) => p.proposal.is_some(),
-            None => false,
-        }
-    }
-
-    pub fn refuses_offer<C: SealChecker, D: Digest>(
+    // The batch that an offer is for.
+    pub fn check_offer<C: SealChecker, D: Digest>(
         &self,
         checker: &C,
         digest: &D,
         proposal: &Sealed,
         requests: &[Request],
         outbox: &[Sealed],
-    ) -> Option<Refusal>
-        ensures { result ≡ offer_refusal (C.accepts checker.now) (D.value digest.now) self.now outbox.now proposal.now requests.now }
+    ) -> Result<Batch, Refusal>
+        ensures { result ≡ ok_unless (stored requests.now) (offer_refusal (C.accepts checker.now) (D.value digest.now) self.now outbox.now proposal.now requests.now) }
     {
         let st = proposal.statement;
-        if outbox.len() < ROOM {
-            return Some(Refusal::Room);
-        }
+        check_room(outbox)?;
         if st.kind != Kind::Proposal || st.held != 0 {
-            return Some(Refusal::Kind);
+            return Err(Refusal::Kind);
         }
-        if st.signer >= self.house.n() {
-            return Some(Refusal::Signer);
+        check_signer(&self.house, st.signer)?;
+        self.view.check_epoch(st.epoch)?;
+        if self.offered_place(st.number)?.proposal.is_some() {
+            return Err(Refusal::Standing);
         }
-        if self.view.changing || st.epoch != self.view.epoch {
-            return Some(Refusal::Epoch);
+        if !self.view.owns(&self.house, st.number, st.signer) {
+            return Err(Refusal::Authority);
         }
-        if self.is_not_offered(st.number) {
-            return Some(Refusal::Number);
+        let batch = batch_of(digest, &st.digest, requests)?;
+        check_seal(checker, proposal)?;
+        if let Some(i) = self.first_bad(checker, digest, st.number, requests) {
+            return Err(Refusal::Request(i));
         }
-        if self.is_filled(st.number) {
-            return Some(Refusal::Standing);
-        }
-        if !self.view.owns(self.house.n(), st.number, st.signer) {
-            return Some(Refusal::Authority);
-        }
-        if is_no_batch(digest, &st.digest, requests) {
-            return Some(Refusal::Batch);
-        }
-        if !checker.genuine(&st, proposal.seal) {
-            return Some(Refusal::Seal);
-        }
-        match self.first_bad(checker, digest, st.number, requests) {
-            Some(i) => Some(Refusal::Request(i)),
-            None => None,
-        }
+        Ok(batch)
     }
 
-    fn has_prepare(&self, s: u64, signer: u8) -> bool
-        requires { in_window self.now.table s ≡ true }
-        ensures { result ≡ has_ballot (place_at self.now.table s).prepares signer }
+    // The place that a vote is for; a checkpoint's number is one of a checkpoint.
+    fn voted_place(&self, st: &Statement) -> Result<&Place, Refusal>
+        ensures { MatchResult result (λ p. (not_voted self.now st.now ≡ false) × (p.now ≡ place_at self.now.table st.now.number)) (λ e. (not_voted self.now st.now ≡ true) × (e ≡ Refusal.Number)) }
     {
-        match self.table.place(s) {
-            Some(p) => p.prepares.has(signer),
-            None => false,
+        let place = self.table.place(st.number).ok_or(Refusal::Number)?;
+        if st.kind == Kind::Checkpoint && (st.number > LIMIT || st.number % 16 != 0) {
+            return Err(Refusal::Number);
         }
+        Ok(place)
     }
 
-    fn has_commit(&self, s: u64, signer: u8) -> bool
-        requires { in_window self.now.table s ≡ true }
-        ensures { result ≡ has_ballot (place_at self.now.table s).commits signer }
+    // Whether this signer's vote of this kind stands at a place.
+    fn vote_stands(&self, place: &Place, st: &Statement) -> bool
+        ensures { result ≡ cond (same_kind st.now.kind Kind.Prepare) (has_ballot place.now.prepares st.now.signer) (cond (same_kind st.now.kind Kind.Commit) (has_ballot place.now.commits st.now.signer) (has_ballot (row_at self.now.table st.now.number) st.now.signer)) }
     {
-        match self.table.place(s) {
-            Some(p) => p.commits.has(signer),
-            None => false,
+        match st.kind {
+            Kind::Prepare => place.prepares.has(st.signer),
+            Kind::Commit => place.commits.has(st.signer),
+            _ => self.table.row(st.number).has(st.signer),
         }
     }
 
-    // Whether this signer's vote of this kind stands.
-    fn vote_stands(&self, st: &Statement) -> bool
-        requires { in_window self.now.table st.now.number ≡ true }
-        ensures { result ≡ vote_stands self.now.table st.now }
-    {
-        if st.kind == Kind::Prepare {
-            return self.has_prepare(st.number, st.signer);
-        }
-        if st.kind == Kind::Commit {
-            return self.has_commit(st.number, st.signer);
-        }
-        self.table.row(st.number).has(st.signer)
-    }
-
-    // Whether a number's place is filled with a digest.
-    fn is_proposed(&self, s: u64, digest: &DigestValue) -> bool
-        requires { in_window self.now.table s ≡ true }
-        ensures { result ≡ proposes (place_at self.now.table s).proposal digest.now }
-    {
-        match self.table.place(s) {
-            Some(p) => p.proposes(digest),
-            None => false,
-        }
-    }
-
-    // Whether a number has no place, or is none of a checkpoint.
-    fn is_not_voted(&self, st: &Statement) -> bool
-        ensures { result ≡ not_voted self.now st.now }
-    {
-        if st.number <= self.table.stable || st.number - self.table.stable > 32 {
-            return true;
-        }
-        st.kind == Kind::Checkpoint && (st.number > LIMIT || st.number % 16 != 0)
-    }
-
-    pub fn refuses_vote<C: SealChecker>(
+    pub fn check_vote<C: SealChecker>(
         &self,
         checker: &C,
         vote: &Sealed,
         outbox: &[Sealed],
-    ) -> Option<Refusal>
-        ensures { result ≡ vote_refusal (C.accepts checker.now) self.now outbox.now vote.now }
+    ) -> Result<(), Refusal>
+        ensures { result ≡ ok_unless tt (vote_refusal (C.accepts checker.now) self.now outbox.now vote.now) }
     {
         let st = vote.statement;
-        if outbox.len() < ROOM {
-            return Some(Refusal::Room);
-        }
+        check_room(outbox)?;
         if is_no_vote_kind(&st) {
-            return Some(Refusal::Kind);
+            return Err(Refusal::Kind);
         }
-        if st.signer >= self.house.n() {
-            return Some(Refusal::Signer);
+        check_signer(&self.house, st.signer)?;
+        if is_of_epoch(st.kind) {
+            self.view.check_epoch(st.epoch)?;
         }
-        if is_of_epoch(st.kind) && (self.view.changing || st.epoch != self.view.epoch) {
-            return Some(Refusal::Epoch);
+        let place = self.voted_place(&st)?;
+        if is_of_epoch(st.kind) && !place.proposes(&st.digest) {
+            return Err(Refusal::Unproposed);
         }
-        if self.is_not_voted(&st) {
-            return Some(Refusal::Number);
+        if self.vote_stands(place, &st) {
+            return Err(Refusal::Standing);
         }
-        if is_of_epoch(st.kind) && !self.is_proposed(st.number, &st.digest) {
-            return Some(Refusal::Unproposed);
-        }
-        if self.vote_stands(&st) {
-            return Some(Refusal::Standing);
-        }
-        if !checker.genuine(&st, vote.seal) {
-            return Some(Refusal::Seal);
-        }
-        None
+        check_seal(checker, vote)
     }
 
-    pub fn refuses_supply<D: Digest>(
+    // The batch that is supplied.
+    pub fn check_supply<D: Digest>(
         &self,
         digest: &D,
         s: u64,
         requests: &[Request],
         outbox: &[Sealed],
-    ) -> Option<Refusal>
-        ensures { result ≡ supply_refusal (D.value digest.now) self.now outbox.now s requests.now }
+    ) -> Result<Batch, Refusal>
+        ensures { result ≡ ok_unless (stored requests.now) (supply_refusal (D.value digest.now) self.now outbox.now s requests.now) }
     {
-        if outbox.len() < ROOM {
-            return Some(Refusal::Room);
-        }
-        let Some(place) = self.table.place(s) else {
-            return Some(Refusal::Number);
-        };
-        let Some(d) = place.proposal else {
-            return Some(Refusal::Unproposed);
-        };
+        check_room(outbox)?;
+        let place = self.table.place(s).ok_or(Refusal::Number)?;
+        let wanted = place.proposal.ok_or(Refusal::Unproposed)?;
         if place.batch.is_some() {
-            return Some(Refusal::Unproposed);
+            return Err(Refusal::Unproposed);
         }
-        if is_no_batch(digest, &d, requests) {
-            return Some(Refusal::Batch);
-        }
-        None
+        batch_of(digest, &wanted, requests)
     }
 
-    pub fn refuses_prove<C: SealChecker, D: Digest>(
+    // The batch that is proved.
+    pub fn check_prove<C: SealChecker, D: Digest>(
         &self,
         checker: &C,
         digest: &D,
@@ -291,54 +258,41 @@ impl Core {
         requests: &[Request],
         commits: &[Sealed],
         outbox: &[Sealed],
-    ) -> Option<Refusal>
-        ensures { result ≡ prove_refusal (C.accepts checker.now) (D.value digest.now) self.now outbox.now s requests.now commits.now }
+    ) -> Result<Batch, Refusal>
+        ensures { result ≡ ok_unless (stored requests.now) (prove_refusal (C.accepts checker.now) (D.value digest.now) self.now outbox.now s requests.now commits.now) }
     {
-        if outbox.len() < ROOM {
-            return Some(Refusal::Room);
+        check_room(outbox)?;
+        if s.checked_sub(1) != Some(self.delivered) || s > LIMIT {
+            return Err(Refusal::Number);
         }
-        if s == 0 || s - 1 != self.delivered || s > LIMIT {
-            return Some(Refusal::Number);
+        if let Some(i) = commits_fault(commits, self.house.n(), self.house.quorum(), s, checker) {
+            return Err(Refusal::Record(i));
         }
-        match commits_fault(commits, self.house.n(), self.house.quorum(), s, checker) {
-            Some(i) => return Some(Refusal::Record(i)),
-            None => {}
-        }
-        if is_no_batch(digest, &first_digest(commits), requests) {
-            return Some(Refusal::Batch);
-        }
-        None
+        batch_of(digest, &first_digest(commits), requests)
     }
 
     // What a new epoch is refused for, its dossier aside.
-    pub(crate) fn refuses_new<C: SealChecker>(
+    fn check_new<C: SealChecker>(
         &self,
         checker: &C,
         new: &Sealed,
         outbox: &[Sealed],
-    ) -> Option<Refusal>
-        ensures { result ≡ new_refusal (C.accepts checker.now) self.now outbox.now new.now }
+    ) -> Result<(), Refusal>
+        ensures { result ≡ ok_unless tt (new_refusal (C.accepts checker.now) self.now outbox.now new.now) }
     {
         let st = new.statement;
-        if outbox.len() < ROOM {
-            return Some(Refusal::Room);
-        }
+        check_room(outbox)?;
         if st.kind != Kind::New || st.held != 0 {
-            return Some(Refusal::Kind);
+            return Err(Refusal::Kind);
         }
-        if st.signer >= self.house.n() {
-            return Some(Refusal::Signer);
-        }
+        check_signer(&self.house, st.signer)?;
         if self.view.is_stale(st.epoch) {
-            return Some(Refusal::Epoch);
+            return Err(Refusal::Epoch);
         }
-        if is_no_set_of(self.house.n(), &st) {
-            return Some(Refusal::Authority);
+        if is_no_set_of(&self.house, &st) {
+            return Err(Refusal::Authority);
         }
-        if !checker.genuine(&st, new.seal) {
-            return Some(Refusal::Seal);
-        }
-        None
+        check_seal(checker, new)
     }
 
     // What the dossier of a new epoch says, or what the epoch is refused for.
@@ -351,10 +305,7 @@ impl Core {
     ) -> Result<Opened, Refusal>
         ensures { Judged (C.accepts checker.now) self.now outbox.now new.now records.now result }
     {
-        match self.refuses_new(checker, new, outbox) {
-            Some(refusal) => return Err(refusal),
-            None => {}
-        }
+        self.check_new(checker, new, outbox)?;
         let target = Target {
             checker,
             terms: Terms {
@@ -363,41 +314,29 @@ impl Core {
                 epoch: new.statement.epoch,
             },
         };
-        match target.walk(records) {
-            Ok(opened) => {
-                if new.statement.number != opened.base {
-                    return Err(Refusal::Number);
-                }
-                Ok(opened)
-            }
-            Err(i) => Err(Refusal::Record(i)),
+        let opened = target.walk(records).map_err(Refusal::Record)?;
+        if new.statement.number != opened.base {
+            return Err(Refusal::Number);
         }
+        Ok(opened)
     }
 
-    pub fn refuses_give_up(&self, outbox: &[Sealed]) -> Option<Refusal>
-        ensures { result ≡ give_up_refusal self.now outbox.now }
+    // The epoch that is given up for.
+    pub fn check_give_up(&self, outbox: &[Sealed]) -> Result<u32, Refusal>
+        ensures { result ≡ ok_unless (self.now.view.epoch + 1) (give_up_refusal self.now outbox.now) }
     {
-        if outbox.len() < ROOM {
-            return Some(Refusal::Room);
-        }
-        if self.view.epoch < LAST_EPOCH {
-            return None;
-        }
-        Some(Refusal::LastEpoch)
+        check_room(outbox)?;
+        self.view.next_epoch()
     }
 
-    pub fn refuses_turn(&self, outbox: &[Sealed]) -> Option<Refusal>
-        ensures { result ≡ turn_refusal self.now outbox.now }
+    // The epoch that begins.
+    pub fn check_turn(&self, outbox: &[Sealed]) -> Result<u32, Refusal>
+        ensures { result ≡ ok_unless (self.now.view.epoch + 1) (turn_refusal self.now outbox.now) }
     {
-        if outbox.len() < ROOM {
-            return Some(Refusal::Room);
-        }
+        check_room(outbox)?;
         if self.view.changing || self.view.is_undelivered(self.delivered) {
-            return Some(Refusal::Unfinished);
+            return Err(Refusal::Unfinished);
         }
-        if self.view.epoch == LAST_EPOCH {
-            return Some(Refusal::LastEpoch);
-        }
-        None
+        self.view.next_epoch()
     }
 }

@@ -12,7 +12,7 @@ votes_of-proof-requires c =
 pub returns : goal.returns
 returns c =
     let made = enter_made c.args.core.now c.args.new.now c.args.records.now c.args.opened.now c.quorum.result c.checkpoints.result.now c.votes_of-proof.result c.move_to.new.self c.enter.new.self
-    c.choices-chosen.result c.own.result c.number.result c.issue_prepares-issued.result c.args.outbox.now c.issue_prepares-issued.new.outbox
+    c.choices-chosen.result c.own.result c.number.result c.args.post.now c.issue_prepares.new.post
     c.quorum.ensures.exact c.checkpoints.ensures c.votes_of-proof.ensures c.move_to.ensures c.choices-chosen.ensures c.own.ensures
-    c.issue_prepares-issued.ensures.value c.issue_prepares-issued.ensures.outbox c.enter.ensures c.number.ensures in
-    record { core = made.core; value = made.value; outbox = made.outbox }
+    c.issue_prepares.ensures c.enter.ensures c.number.ensures in
+    record { core = made.core; post = made.out }

@@ -1,12 +1,13 @@
-use Rattle.std.proofs.Common.{replicate, None, arith}
-use Rattle.controller.proofs.Chosen.{choices_begin, choices_more, choices_end}
+use Rattle.std.proofs.Common.{◌≡◌, ◌+◌, None, sym, ap, ◌∙◌, arith, rules, tests}
+use Rattle.dossier.specs.Walk.{chosen}
+use Rattle.protocol.specs.Enter.{choices}
+use Rattle.controller.proofs.Chosen.{made_by, choices_map}
 use Rattle.controller.proofs.enter.choices.Goals as goal
 
-pub loop-k-init : goal.loop-k-init
-loop-k-init c = choices_begin c.args.opened.now c.args.s (replicate 32 None)
-
-pub loop-k-preserved : goal.loop-k-preserved
-loop-k-preserved c = choices_more c.args.opened.now c.args.s c.loop-k.k c.loop-k.chosen c.chosen.result c.loop-k-test.true c.loop-k.invariant c.chosen.ensures
-
 pub returns : goal.returns
-returns c = choices_end c.args.opened.now c.args.s c.loop-k.k c.loop-k.chosen (omega arith) c.loop-k.invariant
+returns c =
+    let o = c.args.opened.now in
+    let s = c.args.s in
+    let e : s ≡ s + 0 = omega arith in
+    made_by _ _ c.from_fn.result (λ k. chosen o (s + k)) None 32 (λ k y q h. search (rules, tests)) c.from_fn.ensures.items
+    ∙ (sym (choices_map o s 32 0) ∙ sym (ap (λ n. choices o n 32) e))

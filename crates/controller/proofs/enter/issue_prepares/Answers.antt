@@ -1,28 +1,37 @@
-use Rattle.std.proofs.Common.{map, length, refl, ap, ◌∙◌, arith}
+use Rattle.std.proofs.Common.{◌+◌, ◌<◌, ◌≤◌, [], ◌∷◌, map, length, take, sym, ap, ◌∙◌, subst, arith}
 use Rattle.std.proofs.lemmas.List.{take_all}
 use Rattle.protocol.specs.Call.{unsealed}
 use Rattle.protocol.specs.Enter.{prepares_chosen}
-use Rattle.controller.specs.Agree.{written_at}
-use Rattle.controller.proofs.Posts.{written_none}
-use Rattle.controller.proofs.Chosen.{issued_more}
+use Rattle.controller.specs.declared.post.Post.{Post}
+use Rattle.controller.specs.Sending.{Sent}
+use Rattle.controller.proofs.Posts.{sent_none}
+use Rattle.controller.proofs.Chosen.{issued_more, issued_room}
 use Rattle.controller.proofs.enter.issue_prepares.Goals as goal
+use Rattle.controller.proofs.enter.issue_prepares.Goals.{in-Some, in_default}
 
 pub loop-i-init : goal.loop-i-init
-loop-i-init c = (refl, written_none 0 c.args.outbox.now, omega arith)
+loop-i-init c = sent_none c.args.post.now
+
+pub push-requires : goal.push-requires
+push-requires c =
+    issued_room c.args.signer c.args.epoch c.args.s c.args.chosen.now c.loop-i.i c.args.post.now c.loop-i.post (omega (arith, c.loop-i-test.true, c.told-chosen)) (omega (arith, c.requires.room, c.told-chosen)) c.loop-i.invariant
 
 pub loop-i-preserved : goal.loop-i-preserved
 loop-i-preserved c =
-    let inv = c.loop-i.invariant in
-    let w = c.issue_one-issued in
-    let more = issued_more c.args.signer c.args.epoch c.args.s c.args.chosen.now c.loop-i.i c.loop-i.issued w.result c.args.outbox.now c.loop-i.outbox w.new.outbox
-    c.loop-i-test.true (omega (arith, inv.2, c.requires.room, c.requires.few.0)) inv.0 inv.1 w.ensures.value w.ensures.outbox in
-    (more.0, more.1, omega (arith, inv.2, w.ensures.few))
+    let lt : c.loop-i.i < length c.args.chosen.now = omega (arith, c.loop-i-test.true, c.told-chosen) in
+    let room : c.args.post.now.sent + length c.args.chosen.now ≤ length c.args.post.now.outbox.now = omega (arith, c.requires.room, c.told-chosen) in
+    let next : Post → Type 0 = λ p. Sent c.args.post.now p (map unsealed (prepares_chosen c.args.signer c.args.epoch c.args.s (take (c.loop-i.i + 1) c.args.chosen.now))) in
+    elim c.match-choice.branch [
+      | in-Some w ↦
+          subst next (sym w.post-is)
+          (issued_more c.args.signer c.args.epoch c.args.s c.args.chosen.now c.loop-i.i c.args.post.now c.loop-i.post w.push.new.self (w.said.result ∷ []) lt room c.loop-i.invariant
+          (ap (λ y. y ∷ []) w.said.ensures ∙ sym (ap (λ o. map unsealed (prepares_chosen c.args.signer c.args.epoch (c.args.s + c.loop-i.i) (o ∷ []))) w.in-Some.is)) w.push.ensures)
+      | in_default w ↦
+          subst next (sym w.post-is)
+          (issued_more c.args.signer c.args.epoch c.args.s c.args.chosen.now c.loop-i.i c.args.post.now c.loop-i.post c.loop-i.post [] lt room c.loop-i.invariant
+          (sym (ap (λ o. map unsealed (prepares_chosen c.args.signer c.args.epoch (c.args.s + c.loop-i.i) (o ∷ []))) w.in_default.is)) (sent_none c.loop-i.post))
+    ]
 
 pub returns : goal.returns
 returns c =
-    let inv = c.loop-i.invariant in
-    let all = take_all c.loop-i.i c.args.chosen.now c.loop-i-test.false in
-    record {
-      value = inv.0 ∙ ap (λ l. length (prepares_chosen c.args.signer c.args.epoch c.args.s l)) all;
-      outbox = inv.1 ∙ ap (λ l. written_at 0 (map unsealed (prepares_chosen c.args.signer c.args.epoch c.args.s l)) c.args.outbox.now) all;
-    }
+    subst (λ l. Sent c.args.post.now c.loop-i.post (map unsealed (prepares_chosen c.args.signer c.args.epoch c.args.s l))) (take_all c.loop-i.i c.args.chosen.now (omega (arith, c.loop-i-test.false, c.told-chosen))) c.loop-i.invariant

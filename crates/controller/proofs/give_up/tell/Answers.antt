@@ -1,4 +1,4 @@
-use Rattle.std.proofs.Common.{◌∙◌, rules}
+use Rattle.std.proofs.Common.{◌∙◌}
 use Rattle.protocol.specs.Call.{unsealed}
 use Rattle.controller.specs.Agree.{said}
 use Rattle.controller.proofs.Tells.{tell_made}
@@ -9,7 +9,7 @@ pub returns : goal.returns
 returns c =
     let self = c.args.core.now in
     record {
-      outbox = tell_made self c.args.target c.own-2.result c.args.outbox.now c.write_helds.new.outbox c.said.result c.requires.room
-          (c.said.ensures ∙ (λ i. unsealed (said Stable (c.own.ensures i) c.args.target self.table.stable (c.from.ensures i)))) c.own-2.ensures c.write_helds.ensures;
-      long = search rules;
+      sent = tell_made self c.args.target c.own-signer.result c.args.post.now c.push.new.self c.tell_helds.new.post c.said.result c.requires.room
+          (c.said.ensures ∙ (λ i. unsealed (said Stable (c.own-signer.ensures i) c.args.target self.table.stable (c.from-nothing.ensures i)))) c.own-signer.ensures c.push.ensures c.tell_helds.ensures.sent;
+      long = c.tell_helds.ensures.long;
     }

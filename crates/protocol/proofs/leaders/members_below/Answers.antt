@@ -1,13 +1,13 @@
-use Rattle.std.proofs.Common.{sym, ◌∙◌, arith}
+use Rattle.std.proofs.Common.{◌∙◌, arith, rules, tests}
+use Rattle.std.proofs.lemmas.Iterator.{YieldsList-from_range}
+use Rattle.std.proofs.lemmas.Iterator.Consumers.{YieldsList-from_filter, YieldsList-at, count_from_yields_List}
 use Rattle.protocol.specs.Leaders.{member}
-use Rattle.protocol.proofs.Counts.{count_in, count_out}
+use Rattle.protocol.proofs.Counts.{count_below}
 use Rattle.protocol.proofs.leaders.members_below.Goals as goal
-use Rattle.protocol.proofs.leaders.members_below.Goals.{then-is_member, else-is_member}
 
-pub loop-k-preserved : goal.loop-k-preserved
-loop-k-preserved c =
+pub returns : goal.returns
+returns c =
     let p = member c.args.leaders in
-    elim c.if-is_member.branch [
-      | then-is_member w ↦ let more = count_in p c.loop-k.k (sym c.is_member.ensures ∙ w.if-is_member.true) in (omega (arith, more, w.members-is, c.loop-k.invariant.0), omega (arith, w.members-is, c.loop-k.invariant.1))
-      | else-is_member w ↦ let more = count_out p c.loop-k.k (sym c.is_member.ensures ∙ w.if-is_member.false) in (omega (arith, more, w.members-is, c.loop-k.invariant.0), omega (arith, w.members-is, c.loop-k.invariant.1))
-    ]
+    count_from_yields_List c.filter.result c.count.result c.count.ensures.ran
+    (YieldsList-from_filter _ p (YieldsList-at c.filter.ensures.source (YieldsList-from_range 0 c.args.i c.args.i (cc) (omega arith))) c.filter.ensures.closure (λ x b q k. search (rules, tests)))
+    ∙ count_below p c.args.i

@@ -1,15 +1,12 @@
-use Rattle.std.proofs.Common.{sym, ◌∙◌}
-use Rattle.wire.specs.Frames.{no_request}
-use Rattle.protocol.proofs.Known.{has_more, has_found, has_all}
+use Rattle.std.proofs.Common.{◌∙◌, rules, tests}
+use Rattle.std.proofs.lemmas.Iterator.{YieldsList-from_slice}
+use Rattle.std.proofs.lemmas.Iterator.Search.{any_from_yields_List}
+use Rattle.protocol.specs.Offer.{same_request}
+use Rattle.protocol.proofs.Known.{any_same}
 use Rattle.protocol.proofs.requests.has_request.Goals as goal
 
-pub returns-then-is_same : goal.returns-then-is_same
-returns-then-is_same c =
-    sym (has_found c.args.requests.now c.args.q.now c.loop-x.x-index no_request c.loop-x-test.true (sym c.if-is_same.ensures)) ∙ c.loop-x.invariant
-
-pub loop-x-preserved : goal.loop-x-preserved
-loop-x-preserved c =
-    has_more c.args.requests.now c.args.q.now c.loop-x.x-index no_request c.loop-x-test.true (sym c.if-is_same.ensures) ∙ c.loop-x.invariant
-
 pub returns : goal.returns
-returns c = sym (has_all c.args.requests.now c.args.q.now c.loop-x.x-index c.loop-x-test.false) ∙ c.loop-x.invariant
+returns c =
+    let q = c.args.q.now in
+    any_from_yields_List (λ x. same_request x q) _ _ c.any.result c.any.ensures.ran (YieldsList-from_slice c.args.requests.now cc) (λ x b g k. search (rules, tests))
+    ∙ any_same q c.args.requests.now
