@@ -4,11 +4,8 @@ use Rattle.controller.specs.Agree.{said}
 use Rattle.controller.proofs.Tells.{tell_made}
 use Rattle.controller.proofs.give_up.tell.Goals as goal
 
-pub returns : goal.returns
-returns c =
+pub returns-clause-sent : goal.returns-clause-sent
+returns-clause-sent c =
     let self = c.args.core.now in
-    record {
-      sent = tell_made self c.args.target c.own-signer.result c.args.post.now c.push.new.self c.tell_helds.new.post c.said.result c.requires.room
-          (c.said.ensures ∙ (λ i. unsealed (said 6 (c.own-signer.ensures i) c.args.target self.table.stable (c.from_number-nothing.ensures i)))) c.own-signer.ensures c.push.ensures c.tell_helds.ensures.sent;
-      long = c.tell_helds.ensures.long;
-    }
+    tell_made self c.args.target c.own-signer.result c.args.post.now c.push.new.self c.tell_helds.new.post c.said.result c.requires.room
+    (c.said.ensures ∙ (λ i. unsealed (said 6 (c.own-signer.ensures i) c.args.target self.table.stable (c.from_number-nothing.ensures i)))) c.own-signer.ensures c.push.ensures c.tell_helds.ensures.sent
