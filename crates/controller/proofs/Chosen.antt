@@ -1,5 +1,5 @@
 -- What a dossier chooses, number by number, and its checkpoints as votes.
-use Rattle.std.proofs.Common.{◌≡◌, ℕ, zero, suc, ◌+◌, ◌<◌, ◌≤◌, Bool, false, eqb, List, [], ◌∷◌, ◌++◌, map, length, get_or, take, drop, set, Some, None, Ok, Err, Option, sym, refl, ap, ◌∙◌, subst, append_assoc, append-nil, arith}
+use Rattle.std.proofs.Common.{◌≡◌, ℕ, zero, suc, ◌+◌, ◌<◌, ◌≤◌, eqb, List, [], ◌∷◌, ◌++◌, map, length, get_or, take, drop, set, Some, None, Option, sym, refl, ap, ◌∙◌, subst, append_assoc, arith}
 use denote.Param.Members.{Mut}
 use Rattle.std.specs.Fn.{Called}
 use Rattle.std.specs.Array.{IsFromFnResultFrom, IsFromFnResult}
@@ -8,52 +8,37 @@ use Rattle.std.proofs.lemmas.List.FromFn.{fill_by_all}
 use Rattle.std.proofs.lemmas.List.{take_more, length-map, length-take, length-take-le, map-append}
 use Rattle.std.proofs.lemmas.Bool.{cond_both}
 use Rattle.wire.specs.declared.records.DigestValue.{DigestValue}
-use Rattle.wire.specs.declared.records.Statement.{Statement}
 use Rattle.wire.specs.declared.records.Sealed.{Sealed}
 use Rattle.seal.specs.Records.{none}
-use Rattle.wire.specs.Values.{number_of}
-use Rattle.table.specs.declared.records.Table.{Table}
-use Rattle.table.specs.Window.{move_to, enter_all}
 use Rattle.table.specs.declared.records.Votes.{Votes}
-use Rattle.table.specs.Ballots.{listed}
-use Rattle.table.proofs.Backing.{listed_push}
+use Rattle.table.specs.Ballots.{with_vote, listed}
+use Rattle.table.proofs.Backing.{listed_with}
 use Rattle.dossier.specs.declared.parts.Opened.{Opened}
 use Rattle.dossier.specs.Walk.{chosen, checkpoint_group}
 use Rattle.protocol.specs.declared.records.Core.{Core}
-use Rattle.protocol.specs.declared.records.Answer.{Answer}
-use Rattle.protocol.specs.declared.refusal.Refusal.{Refusal}
-use Rattle.protocol.specs.declared.refusal.Refusal.TheVariants.{Room}
-use Rattle.protocol.specs.State.{size, own, enough}
+use Rattle.protocol.specs.State.{size, enough}
 use Rattle.controller.specs.Sound.{Sound}
-use Rattle.protocol.specs.Call.{unsealed, called, cramped}
-use Rattle.protocol.specs.Enter.{as_vote, base_proof, choices, prepares_chosen, opened, new_refusal, enter_refusal, enter_walked, entered}
+use Rattle.protocol.specs.Call.{unsealed}
+use Rattle.protocol.specs.Enter.{as_vote, base_proof, choices, prepares_chosen}
 use Rattle.controller.specs.declared.post.Post.{Post}
 use Rattle.controller.specs.Sending.{Sent}
-use Rattle.controller.specs.Agree.{Agrees, enter_table, enter_chosen, enter_core, enter_issued}
-use Rattle.controller.proofs.Posts.{sent_more, sent_long, posted_all}
+use Rattle.controller.specs.Agree.{enter_table, enter_chosen, enter_core}
+use Rattle.controller.proofs.Posts.{sent_more, sent_long}
 use Rattle.controller.proofs.Kept.{Tame, few_entered}
-use Rattle.controller.proofs.Passes.{passes, both_pass, roomy, tame, quiet_agrees}
+use Rattle.controller.proofs.Passes.{tame}
 use Rattle.controller.proofs.Votings.{quorum_low, tame_move}
 
 pub votes_more : (xs : List Sealed) (i : ℕ) (w w' : Votes) → i < length xs → length xs ≤ 16 → w ≡ listed (map as_vote (take i xs))
-    → w' ≡ record { count = w.count + 1; list = set w.list w.count (as_vote (get_or xs i none)) }
+    → w' ≡ with_vote w (as_vote (get_or xs i none))
     → w' ≡ listed (map as_vote (take (i + 1) xs))
 votes_more xs i w w' lt few is was =
     let vs = map as_vote (take i xs) in
     let long = length-map (take i xs) as_vote ∙ length-take-le i xs (omega arith) in
     was
-    ∙ (listed_push vs (as_vote (get_or xs i none)) w (omega arith) is
+    ∙ (listed_with vs (as_vote (get_or xs i none)) w (omega arith) is
     ∙ ap listed (sym (ap (map as_vote) (take_more xs i none lt) ∙ map-append as_vote (take i xs) (get_or xs i none ∷ []))))
 
-pub votes_count : (xs : List Sealed) (i : ℕ) (w : Votes) → i < length xs → w ≡ listed (map as_vote (take i xs)) → w.count ≡ i
-votes_count xs i w lt is = ap (λ (v : Votes). v.count) is ∙ (length-map (take i xs) as_vote ∙ length-take-le i xs (omega arith))
-
 -- CHOICES
-
-pub length-choices : (o : Opened) (s k : ℕ) → length (choices o s k) ≡ k
-unfolding choices
-length-choices o s zero = refl
-length-choices o s (suc k) = ap suc (length-choices o (s + 1) k)
 
 pub choices_map : (o : Opened) (s k n : ℕ) → choices o (s + n) k ≡ map (λ i. chosen o (s + i)) (range_with_len n k)
 unfolding choices
@@ -148,51 +133,3 @@ pub enter_sound : (c : Core) (new : Sealed) (records : List Sealed) (o : Opened)
 enter_sound c new records o h low =
     let t = enter_tame c records o h low in
     (t.stable, h.1, t.proof, few_entered 0 (enter_chosen c records o) (enter_table c records o).places t.few)
-
-module _ (accepts : Statement → ℕ → Bool) {X : Type 0} (c : Core) (x : X) (box : List Sealed) (new : Sealed) (records : List Sealed) where
-  pub enter_refused : (r : Refusal) → Some r ≡ enter_refusal accepts c box new (opened accepts c new records)
-      → Agrees (entered accepts c x box new records) (Err r) c x box
-  enter_refused r e =
-      subst (λ o. Agrees (called c x box o (enter_walked c x new records (opened accepts c new records))) (Err r) c x box) e
-      (record { result = refl; core = refl; app = refl; outbox = refl })
-
-  pub enter_agrees : (o : Opened) (c' : Core) (box' : List Sealed) (start end : Post) (a : Answer) → opened accepts c new records ≡ Ok o
-      → None ≡ enter_refusal accepts c box new (opened accepts c new records)
-      → c' ≡ enter_core c new records o → start.outbox.now ≡ box → start.sent ≡ 0
-      → Sent start end (map unsealed (enter_issued c new records o)) → box' ≡ end.outbox.now
-      → a ≡ record { issued = end.sent; forwarded = 0; first = 0; batches = 0; applied = 0; passed = 0 }
-      → Agrees (entered accepts c x box new records) (Ok a) c' x box'
-  enter_agrees o c' box' start end a walk none hc at zeros is out ha =
-      let issued = enter_issued c new records o in
-      let all = subst (Sent start end) (sym (append-nil (map unsealed issued))) is in
-      let many = (posted_all start end (map unsealed issued) box box' at zeros is out).1 ∙ length-map issued unsealed in
-      subst (λ w. Agrees (called c x box (enter_refusal accepts c box new (opened accepts c new records)) (enter_walked c x new records w)) (Ok a) c' x box') (sym walk)
-      (quiet_agrees c (enter_core c new records o) x box box' start end (enter_refusal accepts c box new (opened accepts c new records)) issued [] c' a none hc at zeros all out
-      (ha ∙ (λ i. record { issued = many i; forwarded = 0; first = 0; batches = 0; applied = 0; passed = 0 })))
-
-  pub enter_room : None ≡ enter_refusal accepts c box new (opened accepts c new records) → 400 ≤ length box
-  enter_room e = roomy box (passes (cramped box) Room _ (both_pass (new_refusal accepts c box new) _ e).0).0
-
--- the parts of the code make the whole
-pub record Entered (c : Core) (new : Sealed) (records : List Sealed) (o : Opened) (p : Post) (c' : Core) (q : Post) : Type 0 where
-  pub core : c' ≡ enter_core c new records o
-  pub out : Sent p q (map unsealed (enter_issued c new records o))
-
-pub enter_made : (c : Core) (new : Sealed) (records : List Sealed) (o : Opened) (q : ℕ) (marks : List Sealed) (proof : Votes) (t t' : Table) (ds : List (Option DigestValue)) (signer leaders : ℕ) (post post' : Post)
-    → q ≡ enough c → marks ≡ checkpoint_group q records o → proof ≡ listed (map as_vote marks) → t ≡ move_to c.table o.base proof
-    → ds ≡ choices o (t.stable + 1) 32 → signer ≡ own c
-    → Sent post post' (map unsealed (prepares_chosen signer new.statement.epoch (t.stable + 1) ds))
-    → t' ≡ enter_all t ds → leaders ≡ number_of new.statement.digest
-    → Entered c new records o post
-    (record { house = c.house; view = record { epoch = new.statement.epoch; changing = false; leaders = leaders; first = o.base + 1; last = Some (o.base + 32) }; table = t'; delivered = c.delivered; windows = c.windows })
-    post'
-enter_made c new records o q marks proof t t' ds signer leaders post post' hq hm hp ht hd hs sent he hl =
-    let made : t ≡ enter_table c records o =
-    ht ∙ ap (move_to c.table o.base) (hp ∙ ap (λ l. listed (map as_vote l)) (hm ∙ ap (λ n. checkpoint_group n records o) hq)) in
-    let chose : ds ≡ enter_chosen c records o = hd ∙ ap (λ (u : Table). choices o (u.stable + 1) 32) made in
-    let issued : prepares_chosen signer new.statement.epoch (t.stable + 1) ds ≡ enter_issued c new records o = λ i. prepares_chosen (hs i) new.statement.epoch ((made i).stable + 1) (chose i) in
-    let table : t' ≡ enter_all (enter_table c records o) (enter_chosen c records o) = he ∙ (λ i. enter_all (made i) (chose i)) in
-    record {
-      core = λ i. record { house = c.house; view = record { epoch = new.statement.epoch; changing = false; leaders = hl i; first = o.base + 1; last = Some (o.base + 32) }; table = table i; delivered = c.delivered; windows = c.windows };
-      out = subst (λ l. Sent post post' (map unsealed l)) issued sent;
-    }

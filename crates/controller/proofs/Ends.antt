@@ -1,14 +1,11 @@
 -- The end of a call that delivers.
-use Rattle.std.proofs.Common.{◌≡◌, ℕ, suc, ◌+◌, ◌-◌, ◌≤◌, Bool, true, false, cond, not, ◌||◌, eqb, ltb, List, [], ◌∷◌, map, length, None, Ok, Option, sym, refl, ap, ◌∙◌, subst, append-nil, arith}
+use Rattle.std.proofs.Common.{◌≡◌, ℕ, suc, ◌+◌, ◌≤◌, Bool, true, false, cond, not, ◌||◌, eqb, ltb, List, [], ◌∷◌, map, length, None, Ok, Option, sym, refl, ap, ◌∙◌, subst, append-nil, arith}
 use Rattle.std.proofs.lemmas.List.{length-map}
 use Rattle.std.proofs.lemmas.Bool.{or_parts, ltb-false, eqb-true, cond-false, ne_eqb}
 use Rattle.wire.specs.declared.records.DigestValue.{DigestValue}
 use Rattle.wire.specs.declared.records.Statement.{Statement}
 use Rattle.wire.specs.declared.records.Sealed.{Sealed}
 use Rattle.wire.specs.declared.records.Request.{Request}
-use Rattle.wire.specs.declared.records.Batch.{Batch}
-use Rattle.table.specs.Places.{supplied}
-use Rattle.table.specs.Window.{place_at, supply_at}
 use Rattle.group.specs.Group.{commits_fault}
 use Rattle.protocol.specs.declared.records.Core.{Core}
 use Rattle.protocol.specs.declared.records.Answer.{Answer}
@@ -20,14 +17,13 @@ use Rattle.protocol.specs.State.{size, own, enough, limit}
 use Rattle.protocol.specs.Call.{unsealed, written_over, first_number, called, cramped, delivering}
 use Rattle.protocol.specs.Delivery.{Flow, deliver_ready, deliver_one, begin}
 use Rattle.protocol.specs.Offer.{no_batch_of}
-use Rattle.protocol.specs.Supply.{supply_refusal}
 use Rattle.protocol.specs.Prove.{proved_digest, prove_refusal}
 use Rattle.controller.specs.Sound.{Sound}
 use Rattle.controller.specs.declared.post.Post.{Post}
 use Rattle.controller.specs.Agree.{Agrees, Reached, core_after, progress_after, answered, no_progress}
-use Rattle.controller.proofs.Kept.{Tame, tame_with}
+use Rattle.controller.proofs.Kept.{Tame}
 use Rattle.controller.proofs.Posts.{posted_all}
-use Rattle.controller.proofs.Passes.{passes, both_pass, roomy, tame}
+use Rattle.controller.proofs.Passes.{passes, both_pass, roomy}
 use Rattle.controller.proofs.Flows.{one_number}
 
 first_is : {Y : Type 0} (d : ℕ) (bs : List Y) → cond (eqb (length bs) 0) 0 (d + 1) ≡ first_number d bs
@@ -77,15 +73,6 @@ module _ {X : Type 0} (next : X → ℕ → ℕ → ℕ → X) (marked : X → �
   one_low c x rs box p c' x' box' p' h is =
       let at : c'.delivered ≡ c.delivered + 1 = ap (λ (n : Core). n.delivered) is.core ∙ one_number next marked (own c) (begin next marked c x []) rs in
       omega arith
-
--- SUPPLY
-
-pub supply_room : (value : List ℕ → DigestValue) (c : Core) (outbox : List Sealed) (s : ℕ) (rs : List Request) → None ≡ supply_refusal value c outbox s rs → 400 ≤ length outbox
-supply_room value c outbox s rs e = roomy outbox (passes (cramped outbox) Room _ e).0
-
-pub supply_tame : (c : Core) (s : ℕ) (b : Batch) → Sound c → Tame (supply_at c.table s b)
-supply_tame c s b h =
-    tame_with c.table s (supplied b (place_at c.table s)) (tame c h) (h.3 (s - c.table.stable - 1))
 
 -- PROVE
 

@@ -1,6 +1,6 @@
 -- What is known where no check refuses.
-use Rattle.std.proofs.Common.{◌≡◌, ℕ, ◌+◌, ◌-◌, ◌≤◌, Bool, true, false, cond, ◌||◌, List, [], ◌∷◌, ◌++◌, map, length, replicate, Some, None, Ok, Err, Option, Result, refl, ap, ◌∙◌, subst, arith}
-use Rattle.std.proofs.lemmas.Bool.{ltb-false, or_parts}
+use Rattle.std.proofs.Common.{◌≡◌, ℕ, ◌+◌, ◌-◌, ◌≤◌, Bool, true, false, cond, List, [], ◌∷◌, ◌++◌, map, length, replicate, Some, None, Ok, Err, Option, Result, refl, ap, ◌∙◌, subst, arith}
+use Rattle.std.proofs.lemmas.Bool.{ltb-false}
 use Rattle.wire.specs.declared.records.DigestValue.{DigestValue}
 use Rattle.wire.specs.declared.records.Statement.{Statement}
 use Rattle.wire.specs.declared.records.Sealed.{Sealed}
@@ -8,9 +8,8 @@ use Rattle.wire.specs.declared.records.Request.{Request}
 use Rattle.wire.specs.declared.records.Batch.{Batch}
 use Rattle.quorum.specs.declared.house.House.{House}
 use Rattle.table.specs.Places.{filled}
-use Rattle.protocol.specs.declared.refusal.Refusal.TheVariants.{Room}
-use Rattle.protocol.specs.Refusals.{first_of, or_else, ok_unless}
-use Rattle.protocol.specs.Offer.{prepare_of, offer_checks, offer_refusal, offered}
+use Rattle.protocol.specs.Refusals.{or_else, ok_unless}
+use Rattle.protocol.specs.Offer.{prepare_of, offer_refusal, offered}
 use Rattle.table.specs.declared.records.Table.{Table}
 use Rattle.table.specs.Window.{new_table, enter_all, place_at, fill_at}
 use Rattle.protocol.specs.declared.records.Answer.{Answer}
@@ -20,7 +19,7 @@ use Rattle.protocol.specs.declared.refusal.Refusal.{Refusal}
 use Rattle.protocol.specs.State.{size, own, with_table, new_core}
 use Rattle.protocol.specs.Call.{Effect, unsealed, called, cramped, quiet}
 use Rattle.wire.specs.Frames.{stored}
-use Rattle.protocol.specs.Change.{undelivered, after_last, turned, turn_refusal}
+use Rattle.protocol.specs.Change.{undelivered, after_last, turned}
 use Rattle.controller.specs.Sound.{Sound}
 use Rattle.controller.specs.declared.post.Post.{Post}
 use Rattle.controller.specs.Sending.{Sent}
@@ -39,13 +38,6 @@ reached : (last : Option ℕ) (d : ℕ) → undelivered last d ≡ false → aft
 reached None d e = omega arith
 reached (Some last) d e = let h = ltb-false d last e in omega arith
 
-pub turn_may : (c : Core) (outbox : List Sealed) → None ≡ turn_refusal c outbox → Sound c → after_last c.view.last ≤ 1000000000033
-turn_may c outbox e sound =
-    let a = passes (cramped outbox) _ _ e in
-    let b = passes (c.view.changing || undelivered c.view.last c.delivered) _ _ a.1 in
-    let u = or_parts c.view.changing (undelivered c.view.last c.delivered) b.0 in
-    omega (arith, reached c.view.last c.delivered u.1, sound.1)
-
 pub turn_made : (c : Core) (v : View) (t : Table) → v ≡ turned (size c) c.view → t ≡ enter_all c.table (replicate 32 None)
     → record { house = c.house; view = v; table = t; delivered = c.delivered; windows = c.windows } ≡ turn_core c
 turn_made c v t e h = λ i. record {
@@ -62,11 +54,6 @@ turn_sound c h = (h.0, h.1, h.2, few_entered 0 [] c.table.places h.3)
 pub both_pass : (a b : Option Refusal) → None ≡ or_else a b → (None ≡ a) × (None ≡ b)
 both_pass None b e = (refl, e)
 both_pass (Some r) b e = let z : ◌≡◌ {A = ℕ} 0 1 = cc in absurd (omega arith)
-
-pub offer_room : (accepts : Statement → ℕ → Bool) (value : List ℕ → DigestValue) (c : Core) (outbox : List Sealed) (p : Sealed) (rs : List Request)
-    → None ≡ offer_refusal accepts value c outbox p rs → 400 ≤ length outbox
-offer_room accepts value c outbox p rs e =
-    roomy outbox (passes (cramped outbox) Room _ (both_pass (first_of (offer_checks accepts value c outbox p rs)) _ e).0).0
 
 -- a value that no refusal stands before
 pub allowed : {A : Type 0} (a b : A) (o : Option Refusal) → Ok b ≡ ok_unless a o → (b ≡ a) × (None ≡ o)

@@ -1,5 +1,5 @@
 -- What is told on giving up, place by place.
-use Rattle.std.proofs.Common.{◌≡◌, ℕ, suc, ◌+◌, ◌*◌, ◌<◌, ◌≤◌, min, true, List, [], ◌∷◌, ◌++◌, map, length, get_or, take, Some, None, Ok, Option, sym, refl, ap, ◌∙◌, subst, append_assoc, append-nil, arith}
+use Rattle.std.proofs.Common.{◌≡◌, ℕ, suc, ◌+◌, ◌*◌, ◌<◌, ◌≤◌, min, List, [], ◌∷◌, ◌++◌, map, length, get_or, take, Some, Option, sym, refl, ap, ◌∙◌, append_assoc, append-nil, arith}
 use Rattle.std.proofs.lemmas.List.{take_more, length-append, length-map, length-take, length-take-le, map-append}
 use Rattle.wire.specs.declared.records.Sealed.{Sealed}
 use Rattle.table.specs.declared.records.Place.{Place}
@@ -10,15 +10,12 @@ use Rattle.table.specs.Places.{past}
 use Rattle.controller.specs.Sound.{held_votes}
 use Rattle.table.specs.declared.records.Table.{Table}
 use Rattle.protocol.specs.declared.records.Core.{Core}
-use Rattle.protocol.specs.declared.records.Answer.{Answer}
-use Rattle.protocol.specs.declared.refusal.Refusal.TheVariants.{Room}
 use Rattle.protocol.specs.State.{own}
-use Rattle.protocol.specs.Call.{unsealed, cramped}
-use Rattle.controller.proofs.Passes.{passes, roomy, quiet_agrees}
-use Rattle.protocol.specs.Change.{stable_of, held_for, helds_from, prepares_for, prepares_from, evidence, give_up_refusal, gave_up}
+use Rattle.protocol.specs.Call.{unsealed}
+use Rattle.protocol.specs.Change.{stable_of, held_for, helds_from, prepares_for, prepares_from, evidence}
 use Rattle.controller.specs.declared.post.Post.{Post}
 use Rattle.controller.specs.Sending.{Sent}
-use Rattle.controller.specs.Agree.{Agrees, spoken, told, give_up_core}
+use Rattle.controller.specs.Agree.{spoken, told}
 use Rattle.controller.proofs.Posts.{sent_more, sent_long}
 use Rattle.wire.specs.declared.kinds.Kind.TheVariants.{Prepare, Checkpoint}
 
@@ -65,11 +62,6 @@ vote_more f vs d i p q r x lt room is hx next =
     (ap (map f) (take_more vs i d lt) ∙ (map-append f (take i vs) (get_or vs i d ∷ []) ∙ ap (λ y. map f (take i vs) ++ y ∷ []) (sym hx)))
     (omega (arith, long)) is next
 
-pub vote_room : (f : Vote → Sealed) (vs : List Vote) (i : ℕ) (p q : Post) → i < length vs → p.sent + length vs ≤ length p.outbox.now → Sent p q (map f (take i vs)) → q.sent < length q.outbox.now
-vote_room f vs i p q lt room is =
-    let long : length (map f (take i vs)) ≡ i = length-map (take i vs) f ∙ length-take-le i vs (omega arith) in
-    omega (arith, long, is.sent, sent_long p q (map f (take i vs)) is (omega (arith, long, is.sent)))
-
 prepares_push : (s : ℕ) (ps : List Place) (p : Place) → prepares_from s (ps ++ p ∷ []) ≡ prepares_from s ps ++ prepares_for (s + length ps) p.certificate
 prepares_push s [] p = let e : s ≡ s + 0 = omega arith in append-nil (prepares_for s p.certificate) ∙ ap (λ n. prepares_for n p.certificate) e
 prepares_push s (q ∷ ps) p =
@@ -91,9 +83,6 @@ certificate_more s ps i p q r xs lt long room is few same next =
     let front = prepares_from s (take i ps) in
     let all : prepares_from s (take (i + 1) ps) ≡ front ++ xs = prepares_more s ps i lt ∙ ap (λ l. front ++ l) (sym same) in
     (sent_more p q r front xs _ all (omega (arith, is.1)) is.0 next, omega (arith, ap length all, length-append front xs, is.1))
-
-pub certificate_room : (p q : Post) (xs : List Sealed) (i n : ℕ) → i < 32 → n ≤ 11 → p.sent + 352 ≤ length p.outbox.now → Sent p q xs → length xs ≤ 11 * i → q.sent + n ≤ length q.outbox.now
-certificate_room p q xs i n lt few room is long = omega (arith, is.sent, sent_long p q xs is (omega (arith, is.sent)))
 
 pub certificate_votes : (number : ℕ) (o : Option Certificate) (k : Certificate) (slice : List Vote) → o ≡ Some k → held_votes o ≤ 11 → slice ≡ votes_of k.prepares
     → (length slice ≡ length (prepares_for number o)) × (length slice ≤ 11) × (map (spoken Prepare k.epoch number) slice ≡ prepares_for number o)
@@ -129,28 +118,3 @@ told_room c target p q long room is =
 -- no more votes behind the stable number than the largest quorum
 pub proof_few : (t : Table) (slice : List Vote) → slice ≡ votes_of t.proof → t.proof.count ≤ 11 → length slice ≤ 11
 proof_few t slice same few = omega (arith, ap length same, length-take (min t.proof.count 16) t.proof.list)
-
-pub gave_core : (c : Core) (target : ℕ) → target ≡ c.view.epoch + 1
-    → record { house = c.house; view = record { epoch = target; changing = true; leaders = c.view.leaders; first = c.view.first; last = c.view.last }; table = c.table; delivered = c.delivered; windows = c.windows } ≡ give_up_core c
-gave_core c target next = λ i. record {
-  house = c.house;
-  view = record { epoch = next i; changing = true; leaders = c.view.leaders; first = c.view.first; last = c.view.last };
-  table = c.table;
-  delivered = c.delivered;
-  windows = c.windows;
-}
-
-pub gave_agrees : {X : Type 0} (c : Core) (x : X) (box box' : List Sealed) (start end : Post) (target : ℕ) (c' : Core) (k : ℕ) (a : Answer)
-    → (target ≡ c.view.epoch + 1) × (None ≡ give_up_refusal c box) → c' ≡ give_up_core c → start.outbox.now ≡ box → start.sent ≡ 0 → k ≡ length (evidence c.table) → length (told c target) ≡ 33
-    → Sent start end (map unsealed (told c target) ++ evidence c.table) → box' ≡ end.outbox.now
-    → a ≡ record { issued = 33; forwarded = k; first = 0; batches = 0; applied = 0; passed = 0 }
-    → Agrees (gave_up c x box) (Ok a) c' x box'
-gave_agrees c x box box' start end target c' k a ok hc at zeros hk long is out ha =
-    let next = c.view.epoch + 1 in
-    let all = subst (λ e. Sent start end (map unsealed (told c e) ++ evidence c.table)) ok.0 is in
-    let n : length (told c next) ≡ 33 = ap (λ e. length (told c e)) (sym ok.0) ∙ long in
-    quiet_agrees c (give_up_core c) x box box' start end (give_up_refusal c box) (told c next) (evidence c.table) c' a ok.1 hc at zeros all out
-    (ha ∙ (λ i. record { issued = sym n i; forwarded = hk i; first = 0; batches = 0; applied = 0; passed = 0 }))
-
-pub give_up_room : (c : Core) (outbox : List Sealed) → None ≡ give_up_refusal c outbox → 400 ≤ length outbox
-give_up_room c outbox e = roomy outbox (passes (cramped outbox) Room _ e).0

@@ -1,5 +1,5 @@
 // Enter: a primary begins an epoch with a dossier.
-ghost use Rattle.std.specs.Prelude.{◌≡◌, ◌+◌, ◌<◌, ◌≤◌, map, length, slice_set};
+ghost use Rattle.std.specs.Prelude.{◌≡◌, ◌+◌, ◌<◌, ◌≤◌, map, length};
 ghost use Rattle.table.specs.Ballots.{listed};
 ghost use Rattle.protocol.specs.Call.{unsealed};
 ghost use Rattle.protocol.specs.Enter.{as_vote, choices, prepares_chosen};
@@ -15,33 +15,18 @@ use table::records::{Vote, Votes};
 use wire::kinds::Kind;
 use wire::records::{DigestValue, Sealed};
 
-fn push(votes: &mut Votes, checkpoint: &Sealed)
-    requires { votes.old.count < 16 }
-    ensures { votes.new ≡ record { count = votes.old.count + 1; list = slice_set votes.old.list votes.old.count (as_vote checkpoint.now) } }
-{
-    votes.list[usize::from(votes.count)] = Vote {
-        signer: checkpoint.statement.signer,
-        digest: checkpoint.statement.digest,
-        seal: checkpoint.seal,
-    };
-    votes.count += 1;
-}
-
 // Checkpoints as votes.
 fn votes_of(checkpoints: &[Sealed]) -> Votes
     requires { length checkpoints.now ≤ 16 }
     ensures { result ≡ listed (map as_vote checkpoints.now) }
 {
-    let mut votes = Votes {
-        count: 0,
-        list: [Vote {
-            signer: 0,
-            digest: DigestValue { word: 0 },
-            seal: 0,
-        }; 16],
-    };
+    let mut votes = Votes::new();
     for x in checkpoints {
-        push(&mut votes, x);
+        votes.push(Vote {
+            signer: x.statement.signer,
+            digest: x.statement.digest,
+            seal: x.seal,
+        });
     }
     votes
 }

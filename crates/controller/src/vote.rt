@@ -71,11 +71,9 @@ pub(crate) fn accept_vote(core: &mut Core, vote: &Sealed, post: &mut Post<'_>)
     ensures { Voted core.old (vote_table core.old vote.now) (vote_issued core.old vote.now) post.old core.new post.new }
 {
     let st = vote.statement;
-    if st.kind == Kind::Prepare {
-        accept_prepare(core, vote, post);
-    } else if st.kind == Kind::Commit {
-        core.table.commit(st.number, st.signer, ballot_of(vote));
-    } else {
-        accept_checkpoint(core, vote);
+    match st.kind {
+        Kind::Prepare => accept_prepare(core, vote, post),
+        Kind::Commit => core.table.commit(st.number, st.signer, ballot_of(vote)),
+        _ => accept_checkpoint(core, vote),
     }
 }

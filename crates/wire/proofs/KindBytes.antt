@@ -69,3 +69,10 @@ kinds_back = record { bytes = byte_back; kinds = kind_back }
 -- kinds that are not called the same are not equal
 pub kinds_apart : {a b : Kind} → a ≡ b → same_kind a b ≡ false → ⊥
 kinds_apart {a} {b} e h = false≢true (sym h ∙ (ap (λ (k : Kind). same_kind a k) (sym e) ∙ same_kind_self a))
+
+pub same_kind_not : (a b : Kind) → (a ≡ b → ⊥) → same_kind a b ≡ false
+same_kind_not a b h = go (same_kind a b) refl
+  where
+    go : (t : Bool) → same_kind a b ≡ t → t ≡ false
+    go true e = absurd (h (same_kind_is a b e))
+    go false e = refl

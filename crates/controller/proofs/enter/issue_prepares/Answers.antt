@@ -1,5 +1,4 @@
 use Rattle.std.proofs.Common.{◌+◌, ◌<◌, ◌≤◌, [], ◌∷◌, map, length, take, sym, ap, ◌∙◌, subst, arith}
-use Rattle.std.proofs.lemmas.List.{take_all}
 use Rattle.protocol.specs.Call.{unsealed}
 use Rattle.protocol.specs.Enter.{prepares_chosen}
 use Rattle.controller.specs.declared.post.Post.{Post}
@@ -8,9 +7,6 @@ use Rattle.controller.proofs.Posts.{sent_none}
 use Rattle.controller.proofs.Chosen.{issued_more, issued_room}
 use Rattle.controller.proofs.enter.issue_prepares.Goals as goal
 use Rattle.controller.proofs.enter.issue_prepares.Goals.{in-Some, in_default}
-
-pub loop-i-init : goal.loop-i-init
-loop-i-init c = sent_none c.args.post.now
 
 pub push-requires : goal.push-requires
 push-requires c =
@@ -31,7 +27,3 @@ loop-i-preserved c =
           (issued_more c.args.signer c.args.epoch c.args.s c.args.chosen.now c.loop-i.i c.args.post.now c.loop-i.post c.loop-i.post [] lt room c.loop-i.invariant
           (sym (ap (λ o. map unsealed (prepares_chosen c.args.signer c.args.epoch (c.args.s + c.loop-i.i) (o ∷ []))) w.in_default.is)) (sent_none c.loop-i.post))
     ]
-
-pub returns : goal.returns
-returns c =
-    subst (λ l. Sent c.args.post.now c.loop-i.post (map unsealed (prepares_chosen c.args.signer c.args.epoch c.args.s l))) (take_all c.loop-i.i c.args.chosen.now (omega (arith, c.loop-i-test.false, c.told-chosen))) c.loop-i.invariant

@@ -1,17 +1,14 @@
 use Rattle.std.proofs.Common.{◌+◌, ◌*◌, ◌<◌, ◌≤◌, [], map, length, take, sym, ap, subst, arith}
-use Rattle.std.proofs.lemmas.List.{take_all, length-map}
+use Rattle.std.proofs.lemmas.List.{length-map}
 use Rattle.protocol.specs.Change.{prepares_for, prepares_from}
 use Rattle.controller.specs.declared.post.Post.{Post}
 use Rattle.controller.specs.Sending.{Sent}
 use Rattle.controller.specs.Agree.{spoken}
 use Rattle.controller.proofs.Posts.{sent_none}
-use Rattle.controller.proofs.Tells.{certificate_more, certificate_room, certificate_votes}
+use Rattle.controller.proofs.Tells.{certificate_more, certificate_votes}
 use Rattle.controller.proofs.give_up.show_certificates.Goals as goal
 use Rattle.controller.proofs.give_up.show_certificates.Goals.{in-Some, in_default}
 use Rattle.wire.specs.declared.kinds.Kind.TheVariants.{Prepare}
-
-pub loop-i-init : goal.loop-i-init
-loop-i-init c = (sent_none c.args.post.now, omega arith)
 
 pub loop-i-preserved : goal.loop-i-preserved
 loop-i-preserved c =
@@ -33,13 +30,3 @@ loop-i-preserved c =
           (certificate_more (c.args.base + 1) c.args.places.now c.loop-i.i c.args.post.now c.loop-i.post c.loop-i.post [] lt long c.requires.room c.loop-i.invariant
           (omega arith) (sym (ap (prepares_for number) w.in_default.is)) (sent_none c.loop-i.post))
     ]
-
-pub show_votes-requires : goal.show_votes-requires
-show_votes-requires c =
-    let number = c.args.base + 1 + c.loop-i.i in
-    let v = certificate_votes number _ c.in-Some.held c.as_slice.result.now c.in-Some.is (c.requires.few.1 c.loop-i.i) c.as_slice.ensures in
-    certificate_room c.args.post.now c.loop-i.post _ c.loop-i.i _ c.loop-i-test.true v.1 c.requires.room c.loop-i.invariant.0 c.loop-i.invariant.1
-
-pub returns : goal.returns
-returns c =
-    subst (λ l. Sent c.args.post.now c.loop-i.post (prepares_from (c.args.base + 1) l)) (take_all c.loop-i.i c.args.places.now (omega (arith, c.loop-i-test.false, c.told-places))) c.loop-i.invariant.0

@@ -1,4 +1,4 @@
-use Rattle.std.proofs.Common.{◌≡◌, ◌≤◌, [], length, sym, subst, rules}
+use Rattle.std.proofs.Common.{◌≡◌, ◌≤◌, [], length, sym, ap, subst, arith, rules}
 use Rattle.protocol.specs.declared.records.Core.{Core}
 use Rattle.protocol.specs.State.{with_table}
 use Rattle.protocol.specs.Delivery.{deliver_ready, begin}
@@ -19,6 +19,12 @@ returns-in_err-check_vote-clause-agrees g c =
     let v = c.args.vote.now in
     refused tt c.in_err-check_vote.field-0.0 (vote_refusal (g.C.SealChecker.accepts c.args.checker.now) core box v) core x box (vote_effect g.A.Application.next g.A.Application.marked core x v) c.from_residual.result
     c.in_err-check_vote.ensures (search rules)
+
+pub deliver_ready-progress-requires-clause-stable : goal.deliver_ready-progress-requires-clause-stable
+deliver_ready-progress-requires-clause-stable g c =
+    let ok = allowed tt _ _ c.in_ok-check_vote.ensures in
+    let t = vote_tame (g.C.SealChecker.accepts c.args.checker.now) c.args.self.now.core c.args.outbox.now c.args.vote.now ok.1 c.args.self.now.sound in
+    omega (arith, ap (λ (k : Core). k.table.stable) c.accept_vote.ensures.core, t.stable)
 
 pub deliver_ready-progress-requires-clause-room : goal.deliver_ready-progress-requires-clause-room
 deliver_ready-progress-requires-clause-room g c =
