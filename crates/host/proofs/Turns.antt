@@ -4,7 +4,7 @@ use Rattle.std.specs.List.{range_with_len, flat_map, filter_map, cons_option}
 use Rattle.std.proofs.lemmas.List.{flat_map_more, map_more, map-id, append-nil}
 use Rattle.std.proofs.lemmas.List.FromFn.{map-range_with_len_more}
 use Rattle.std.proofs.lemmas.List.Sums.{fold_push}
-use Rattle.std.proofs.lemmas.Bool.{cond_both, lt-ltb, le-ltb, le-leb, lt-leb}
+use Rattle.std.proofs.lemmas.Bool.{cond_both, lt-ltb, le-ltb, le-leb}
 use Rattle.std.proofs.lemmas.Option.{unwrap_or-slice_get}
 use Rattle.std.specs.Option.{unwrap_or}
 use Rattle.wire.specs.declared.records.Sealed.{Sealed}
@@ -123,18 +123,13 @@ numbers_turn ps a s bs from so_far added =
     ∙ flat_map_more (at_number ps) bs (range_with_len a k) (a + k)
     ∙ ap (λ ns. bs ++ flat_map (at_number ps) ns) (sym (counting_more a k) ∙ ap (range_with_len a) more)
 
--- all 32 numbers, and none for a base above the largest number
+-- all 32 numbers
 pub numbers_all : (ps : List (List Sealed)) (h k : ℕ) {out : List Sealed} (bs : List Sealed) → h ≤ 1000000000000 → k ≡ 32
     → out ≡ bs ++ flat_map (at_number ps) (range_with_len (h + 1) k) → out ≡ bs ++ at_numbers ps h
 unfolding at_numbers
 numbers_all ps h k bs low is-k all =
     all ∙ ap (λ n. bs ++ flat_map (at_number ps) (range_with_len (h + 1) n)) is-k
     ∙ ap (λ t. bs ++ cond t (flat_map (at_number ps) (range_with_len (h + 1) 32)) []) (sym (le-leb h 1000000000000 low))
-
-pub numbers_none : (ps : List (List Sealed)) (h : ℕ) (bs : List Sealed) → 1000000000000 < h → bs ≡ bs ++ at_numbers ps h
-unfolding at_numbers
-numbers_none ps h bs high =
-    sym (append-nil bs) ∙ ap (λ t. bs ++ cond t (flat_map (at_number ps) (range_with_len (h + 1) 32)) []) (sym (lt-leb h 1000000000000 high))
 
 -- the parts one after another
 pub assembled_whole : (ps : List (List Sealed)) {start one two three best : List Sealed} {base : ℕ}

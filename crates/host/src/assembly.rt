@@ -32,6 +32,7 @@ fn add_number(out: &mut Vec<Sealed>, partings: &[Vec<Sealed>], s: u64) -> Result
 }
 
 // The 32 numbers above the base.
+#[tactic(auto, using(crate::proofs::Turns::numbers_turn), unfolding(crate::specs::Assembly::at_numbers))]
 fn add_numbers(out: &mut Vec<Sealed>, partings: &[Vec<Sealed>], base: u64) -> Result<(), AllocError>
     ensures { OnOk result (out.new.items ≡ out.old.items ++ at_numbers (map vec_items partings.now) base) }
 {

@@ -62,6 +62,7 @@ impl Keyring {
     }
 
     // The seal of a statement by its signer.
+    #[tactic(auto, unfolding(crate::specs::Keys::tag_of))]
     pub fn tag(&self, st: &Statement) -> u64
         ensures { result ≡ tag_of self.now.secret st.now }
     {

@@ -1,13 +1,6 @@
 use Rattle.std.proofs.Common.{◌+◌, ◌-◌, map, vec_items, arith}
-use Rattle.host.proofs.Turns.{numbers_none, numbers_turn, numbers_all}
+use Rattle.host.proofs.Turns.{numbers_turn, numbers_all}
 use Rattle.host.proofs.assembly.add_numbers.Goals as goal
-
-pub returns-then-base-gt-LAST : goal.returns-then-base-gt-LAST
-returns-then-base-gt-LAST c = numbers_none (map vec_items c.args.partings.now) c.args.base (vec_items c.args.out.now) (omega arith)
-
-pub loop-s-preserved : goal.loop-s-preserved
-loop-s-preserved c =
-    numbers_turn (map vec_items c.args.partings.now) (c.args.base + 1) c.loop-s.s (vec_items c.args.out.now) (omega arith) c.loop-s.invariant c.in_ok-add_number.ensures
 
 pub returns-in_ok-add_number : goal.returns-in_ok-add_number
 returns-in_ok-add_number c =
