@@ -1,3 +1,4 @@
 pub mod Each
 pub mod Folds
+pub mod Passed
 pub mod Words
