@@ -54,5 +54,5 @@ by_test k limit size gives parses w r true e (p, g, h) = h ∙ parsed_digits lim
 by_test k limit size gives parses w r false e h = h ∙ unparsed limit w e
 
 -- the number of a type of k bits
-pub number_parsed : {E : Type 0} (k limit : ℕ) → 2 ^ k ≡ limit + 1 → (gives : List ℕ → Result ℕ E → Type 0) → ((w : List ℕ) (p : Result ℕ E) → gives w p → ParsesUnsigned k 10 w p) → (w : List ℕ) (r : Option ℕ) → IsNumberIn gives w r → r ≡ number_in limit w
-number_parsed k limit size gives parses w r h = by_test k limit size gives parses w r (list_all is_ascii_digit w) refl h
+pub number_parsed : {E : Type 0} (k limit : ℕ) → 2 ^ k ≡ limit + 1 → (gives : List ℕ → Result ℕ E → Type 0) (w : List ℕ) (r : Option ℕ) → IsNumberIn gives w r → ((bs : List ℕ) (p : Result ℕ E) → gives bs p → ParsesUnsigned k 10 bs p) → r ≡ number_in limit w
+number_parsed k limit size gives w r h parses = by_test k limit size gives parses w r (list_all is_ascii_digit w) refl h
