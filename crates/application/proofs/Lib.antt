@@ -1,4 +1,3 @@
 pub mod Each
 pub mod Folds
 pub mod Passed
-pub mod Words

@@ -17,7 +17,7 @@ pub(crate) fn frame_in(bytes: &[u8]) -> Result<Frame, FrameFault>
     ensures { result ≡ frame_in bytes.now }
 {
     match bytes {
-        [_, _, _, 9, ..] => read_batch(bytes).map(|batch| Frame::Requests(batch)),
-        _ => read_sealed(bytes).map(|sealed| Frame::Statement(sealed)),
+        [_, _, _, 9, ..] => read_batch(bytes).map(Frame::Requests),
+        _ => read_sealed(bytes).map(Frame::Statement),
     }
 }

@@ -94,6 +94,6 @@ impl<P: Application> Noted<P> {
         self.answer = None;
         deliver(self, windows, &[request]);
         self.answer
-            .map_or(Outcome::PassedOver(why), |code| Outcome::Answered(code))
+            .map_or(Outcome::PassedOver(why), Outcome::Answered)
     }
 }
