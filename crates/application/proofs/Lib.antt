@@ -1,3 +1,3 @@
 pub mod Each
 pub mod Folds
-pub mod Words
+pub mod Passed

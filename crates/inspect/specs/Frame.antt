@@ -5,21 +5,21 @@ use Rattle.wire.specs.declared.records.Batch.{Batch}
 use Rattle.wire.specs.declared.faults.FrameFault.{FrameFault}
 use Rattle.wire.specs.Frames.{read_sealed, read_batch}
 use Rattle.inspect.specs.declared.frame.Frame.{Frame}
-use Rattle.inspect.specs.declared.frame.Frame.TheVariants.{Statement, Requests, Fault}
+use Rattle.inspect.specs.declared.frame.Frame.TheVariants.{Statement, Requests}
 
-abbrev pub of_sealed : Result Sealed FrameFault → Frame
-of_sealed (Ok s) = Statement s
-of_sealed (Err f) = Fault f
+abbrev pub of_sealed : Result Sealed FrameFault → Result Frame FrameFault
+of_sealed (Ok s) = Ok (Statement s)
+of_sealed (Err f) = Err f
 
-abbrev pub of_batch : Result Batch FrameFault → Frame
-of_batch (Ok b) = Requests b
-of_batch (Err f) = Fault f
+abbrev pub of_batch : Result Batch FrameFault → Result Frame FrameFault
+of_batch (Ok b) = Ok (Requests b)
+of_batch (Err f) = Err f
 
-abbrev pub sealed_in : List ℕ → Frame
+abbrev pub sealed_in : List ℕ → Result Frame FrameFault
 sealed_in bs = of_sealed (read_sealed bs)
 
-abbrev pub batch_in : List ℕ → Frame
+abbrev pub batch_in : List ℕ → Result Frame FrameFault
 batch_in bs = of_batch (read_batch bs)
 
-abbrev pub frame_in : List ℕ → Frame
+abbrev pub frame_in : List ℕ → Result Frame FrameFault
 frame_in bs = cond (slice_index bs 3 == 9) (batch_in bs) (sealed_in bs)

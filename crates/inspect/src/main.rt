@@ -10,28 +10,18 @@ use account::Account;
 use frame::{Frame, frame_in};
 use shown::{show_account, show_batch, show_fault, show_statement};
 use std::io::{BufRead, BufReader};
-use text::fault::HexFault;
 use text::hex::decode_hex;
+use wire::faults::FrameFault;
 
-// Says why a line is no hexadecimal.
-fn show_hex_fault(rt: &HostRuntime, line: u64, fault: HexFault) -> anyhow::Result<()> {
-    match fault {
-        HexFault::Digit(place) => println!(rt;
-            "{line}: not hexadecimal: character {place} is none of 0-9 and a-f"
-        )?,
-        HexFault::Odd(count) => println!(rt;
-            "{line}: not hexadecimal: {count} digits, an odd number"
-        )?,
-        HexFault::Memory => println!(rt; "{line}: not read: no memory")?,
-    }
-    Ok(())
-}
-
-fn show_frame(rt: &HostRuntime, line: u64, frame: &Frame) -> anyhow::Result<()> {
+fn show_frame(
+    rt: &HostRuntime,
+    line: u64,
+    frame: &Result<Frame, FrameFault>,
+) -> anyhow::Result<()> {
     match frame {
-        Frame::Statement(sealed) => show_statement(rt, line, sealed),
-        Frame::Requests(batch) => show_batch(rt, line, batch),
-        Frame::Fault(fault) => show_fault(rt, line, fault),
+        Ok(Frame::Statement(sealed)) => show_statement(rt, line, sealed),
+        Ok(Frame::Requests(batch)) => show_batch(rt, line, batch),
+        Err(fault) => show_fault(rt, line, fault),
     }
 }
 
@@ -45,18 +35,18 @@ fn take_line(rt: &HostRuntime, account: &mut Account, text: &[u8]) -> anyhow::Re
         }
         Err(fault) => {
             account.count_unread();
-            show_hex_fault(rt, line, fault)
+            println!(rt; "{line}: {fault}")?;
+            Ok(())
         }
     }
 }
 
 fn run(rt: &HostRuntime) -> anyhow::Result<()> {
-    let mut account = Account::new();
+    let mut account = Account::default();
     for line in BufReader::new(rt.alloc(), rt.stdin())?.split(rt.alloc(), b'\n') {
         let text = line?;
         match text.as_slice() {
-            [] => {}
-            [b'#', ..] => {}
+            [] | [b'#', ..] => {}
             bytes => take_line(rt, &mut account, bytes)?,
         }
     }

@@ -4,6 +4,7 @@ use digest::batches::batch_digest;
 use digest::fnv::Fnv1a;
 use digest::interface::Digest;
 use digest::truncated::Sha256;
+use std::fmt;
 use wire::faults::FrameFault;
 use wire::records::{Batch, Request, Sealed, Statement};
 
@@ -34,24 +35,30 @@ fn place_name(place: usize) -> &'static str {
 }
 
 // The fields that the kind uses.
-fn show_fields(rt: &HostRuntime, st: &Statement) -> anyhow::Result<()> {
-    let epoch = st.epoch;
-    let number = st.number;
-    let value = st.digest.number();
-    match st.kind {
-        1 => print!(rt; "timestamp {number}, payload {value:016x}")?,
-        2 | 3 | 4 => print!(rt; "epoch {epoch}, number {number}, digest {value:016x}")?,
-        5 => print!(rt; "number {number}, mark {value:016x}")?,
-        6 => print!(rt; "target epoch {epoch}, stable number {number}")?,
-        7 => {
-            let held = st.held;
-            print!(rt;
-                "target epoch {epoch}, number {number}, held epoch {held}, digest {value:016x}"
-            )?
+#[derive(Clone, Copy)]
+struct Fields<'a>(&'a Statement);
+
+impl<'a> fmt::Display for Fields<'a> {
+    fn fmt<W: fmt::Write>(&self, f: &mut fmt::Formatter<W>) -> fmt::Result {
+        let st = self.0;
+        let epoch = st.epoch;
+        let number = st.number;
+        let value = st.digest.number();
+        match st.kind {
+            1 => write!(f, "timestamp {number}, payload {value:016x}"),
+            2 | 3 | 4 => write!(f, "epoch {epoch}, number {number}, digest {value:016x}"),
+            5 => write!(f, "number {number}, mark {value:016x}"),
+            6 => write!(f, "target epoch {epoch}, stable number {number}"),
+            7 => {
+                let held = st.held;
+                write!(
+                    f,
+                    "target epoch {epoch}, number {number}, held epoch {held}, digest {value:016x}"
+                )
+            }
+            _ => write!(f, "epoch {epoch}, number {number}, leader set {value:b}"),
         }
-        _ => print!(rt; "epoch {epoch}, number {number}, leader set {value:b}")?,
     }
-    Ok(())
 }
 
 pub(crate) fn show_statement(rt: &HostRuntime, line: u64, sealed: &Sealed) -> anyhow::Result<()> {
@@ -59,10 +66,9 @@ pub(crate) fn show_statement(rt: &HostRuntime, line: u64, sealed: &Sealed) -> an
     let name = kind_name(st.kind);
     let who = if st.kind == 1 { "client" } else { "controller" };
     let signer = st.signer;
-    print!(rt; "{line}: {name} by {who} {signer}: ")?;
-    show_fields(rt, st)?;
+    let fields = Fields(st);
     let seal = sealed.seal;
-    println!(rt; ", seal {seal:016x}")?;
+    println!(rt; "{line}: {name} by {who} {signer}: {fields}, seal {seal:016x}")?;
     Ok(())
 }
 
@@ -79,22 +85,19 @@ fn show_digest<D: Digest>(
     Ok(())
 }
 
-fn show_request(rt: &HostRuntime, r: &Request) -> anyhow::Result<()> {
-    let client = r.client;
-    let timestamp = r.timestamp;
-    let payload = r.payload;
-    let seal = r.seal;
-    println!(rt;
-        "  client {client}, timestamp {timestamp}, payload {payload:016x}, seal {seal:016x}"
-    )?;
-    Ok(())
-}
-
 pub(crate) fn show_batch(rt: &HostRuntime, line: u64, batch: &Batch) -> anyhow::Result<()> {
     let count = batch.count;
     println!(rt; "{line}: batch, {count} requests")?;
     for r in batch.as_slice() {
-        show_request(rt, r)?;
+        let Request {
+            client,
+            timestamp,
+            payload,
+            seal,
+        } = *r;
+        println!(rt;
+            "  client {client}, timestamp {timestamp}, payload {payload:016x}, seal {seal:016x}"
+        )?;
     }
     show_digest(rt, "FNV-1a", &Fnv1a, batch)?;
     show_digest(rt, "SHA-256", &Sha256, batch)

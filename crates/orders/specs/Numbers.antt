@@ -1,25 +1,10 @@
--- Numbers and degrees as they are written in words; 48 to 57 are the digits, 46 is the point, 45 the minus sign.
-use Rattle.std.specs.Prelude.{ℕ, ◌+◌, ◌-◌, ◌*◌, cond, ◌&&◌, ◌||◌, List, [], ◌∷◌, length, take, drop, ℤ, pos, ◌-ℤ◌, Some, None, Option, ◌==◌, nat_le, nat_lt, slice_index}
+-- Degrees as they are written in words; 46 is the point, 45 the minus sign.
+use Rattle.std.specs.Prelude.{ℕ, ◌+◌, ◌-◌, ◌*◌, cond, ◌&&◌, List, length, take, drop, ℤ, pos, ◌-ℤ◌, Some, None, Option, ◌==◌, nat_le, nat_lt, slice_index}
+use Rattle.text.specs.Numbers.{number_in as limited}
 
--- n with one digit more
-abbrev pub with_digit : ℕ → ℕ → ℕ
-with_digit n b = n * 10 + (b - 48)
-
--- the number that begins with n and goes on with these digits, if it is below 2 ^ 32
-abbrev pub digits_from : ℕ → List ℕ → Option ℕ
-digits_from n [] = Some n
-digits_from n (b ∷ bs) =
-    cond (nat_lt b 48 || nat_lt 57 b) None
-    (cond (nat_lt 4294967295 (with_digit n b)) None
-    (digits_from (with_digit n b) bs))
-
--- a number has a digit at least
-unfoldable pub number_in : List ℕ → Option ℕ
-number_in w = cond (length w == 0) None (digits_from 0 w)
-
-abbrev pub up_to : ℕ → Option ℕ → Option ℕ
-up_to limit None = None
-up_to limit (Some n) = cond (nat_le n limit) (Some n) None
+-- a number below 2 ^ 32, with a digit at least
+abbrev pub number_in : List ℕ → Option ℕ
+number_in w = limited 4294967295 w
 
 abbrev pub hundredths : Option ℕ → Option ℕ → Option ℕ
 hundredths None part = None

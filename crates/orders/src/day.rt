@@ -1,10 +1,10 @@
 // The orders of a day to one application.
 use crate::account::Account;
-use crate::line::{Line, line_in};
+use crate::line::line_in;
 use crate::outcome::Noted;
-use crate::shown::{show_bad, show_counts, show_mark, show_outcome};
 use crate::worded::Worded;
 use window::windows::Windows;
+use wire::records::Request;
 
 #[derive(Drop)]
 pub struct Day<P> {
@@ -18,7 +18,7 @@ impl<P: Worded> Day<P> {
         Day {
             noted: Noted { app, answer: None },
             windows: Windows::new(),
-            account: Account::new(),
+            account: Account::default(),
         }
     }
 
@@ -29,22 +29,28 @@ impl<P: Worded> Day<P> {
         bytes: &[u8],
     ) -> anyhow::Result<()> {
         match line_in::<P>(rt.alloc(), bytes)? {
-            Line::Skip => Ok(()),
-            Line::Bad(wrong) => {
-                self.account.count_bad();
-                show_bad(rt, number, wrong.text())
-            }
-            Line::Order(request) => {
+            Ok(request) => {
                 let outcome = self.noted.serve(&mut self.windows, request);
                 self.account.count(outcome);
-                show_outcome(rt, number, &request, outcome)
+                let Request {
+                    client,
+                    timestamp,
+                    ..
+                } = request;
+                println!(rt; "{number}: client {client}, timestamp {timestamp}: {outcome}")?;
+            }
+            Err(wrong) => {
+                self.account.count_bad();
+                println!(rt; "{number}: bad line: {wrong}")?;
             }
         }
+        Ok(())
     }
 
     pub(crate) fn close(&self, rt: &HostRuntime) -> anyhow::Result<()> {
-        show_counts(rt, &self.account)?;
+        println!(rt; "{}", self.account)?;
         self.noted.app.show(rt)?;
-        show_mark(rt, self.noted.app.mark())
+        println!(rt; "mark: {:016x}", self.noted.app.mark())?;
+        Ok(())
     }
 }

@@ -9,7 +9,6 @@ mod day;
 mod line;
 mod numbers;
 mod outcome;
-mod shown;
 mod tank_words;
 mod valve_words;
 mod worded;
@@ -27,21 +26,25 @@ fn serve_lines<P: Worded + Drop, R: BufRead + Drop>(
     lines: Split<R>,
 ) -> anyhow::Result<()> {
     let mut day = Day::new(app);
+    // a count, and no range beside the lines, since a range would end them
     let mut number = 1u64;
     for line in lines {
         let text = line?;
         number = number.saturating_add(1);
-        day.take(rt, number, text.as_slice())?;
+        match text.as_slice() {
+            [] | [b'#', ..] => {}
+            bytes => day.take(rt, number, bytes)?,
+        }
     }
     day.close(rt)
 }
 
 fn run(rt: &HostRuntime) -> anyhow::Result<()> {
     let mut lines = BufReader::new(rt.alloc(), rt.stdin())?.split(rt.alloc(), b'\n');
-    let name = match lines.next() {
-        Some(line) => line?,
-        None => Vec::new(rt.alloc()),
-    };
+    let name = lines
+        .next()
+        .transpose()?
+        .unwrap_or_else(|| Vec::new(rt.alloc()));
     match name.as_slice() {
         b"tanks" => serve_lines(rt, Tanks::new(), lines),
         b"valves" => serve_lines(rt, Valves::new(), lines),

@@ -3,22 +3,47 @@ ghost use Rattle.std.specs.Prelude.{◌≡◌, [], ◌∷◌, Some};
 ghost use Rattle.window.specs.Deliveries.{delivered};
 ghost use Rattle.orders.specs.Outcomes.{why_passed, outcome_of};
 
+use application::codes::{DONE, Reject};
 use application::interface::Application;
+use std::fmt;
 use window::delivery::deliver;
 use window::windows::Windows;
 use wire::records::Request;
 
-#[derive(Clone, Copy)]
+#[derive(Clone, Copy, Debug, PartialEq, Eq)]
 pub enum Passed {
     NoClient,
     Outside,
     Marked,
 }
 
-#[derive(Clone, Copy)]
+impl fmt::Display for Passed {
+    fn fmt<W: fmt::Write>(&self, f: &mut fmt::Formatter<W>) -> fmt::Result {
+        f.write_str(match self {
+            Passed::NoClient => "no such client",
+            Passed::Outside => "the timestamp is outside the window",
+            Passed::Marked => "the timestamp is marked already",
+        })
+    }
+}
+
+#[derive(Clone, Copy, Debug, PartialEq, Eq)]
 pub enum Outcome {
     Answered(u8),
     PassedOver(Passed),
+}
+
+impl fmt::Display for Outcome {
+    fn fmt<W: fmt::Write>(&self, f: &mut fmt::Formatter<W>) -> fmt::Result {
+        match *self {
+            Outcome::Answered(DONE) => f.write_str("done"),
+            Outcome::Answered(code) => match Reject::try_from(code) {
+                Ok(reject) => write!(f, "code {code}: {reject}"),
+                Err(none) => write!(f, "{none}"),
+            },
+            Outcome::PassedOver(why) => write!(f, "passed over: {why}"),
+        }
+    }
 }
 
 // An application, and how it answered the last order.
@@ -50,16 +75,13 @@ impl<P: Application> Application for Noted<P> {
 fn why_passed(windows: &Windows, client: u8, timestamp: u32) -> Passed
     ensures { result ≡ why_passed windows.now client timestamp }
 {
-    match windows.window(client) {
-        None => Passed::NoClient,
-        Some(window) => {
-            let base = window.base();
-            if timestamp == 0 || (timestamp > base && timestamp - base > 64) {
-                return Passed::Outside;
-            }
-            Passed::Marked
-        }
+    let Some(window) = windows.window(client) else {
+        return Passed::NoClient;
+    };
+    if timestamp == 0 || timestamp.saturating_sub(window.base()) > 64 {
+        return Passed::Outside;
     }
+    Passed::Marked
 }
 
 impl<P: Application> Noted<P> {
@@ -71,9 +93,7 @@ impl<P: Application> Noted<P> {
         let why = why_passed(windows, request.client, request.timestamp);
         self.answer = None;
         deliver(self, windows, &[request]);
-        match self.answer {
-            Some(code) => Outcome::Answered(code),
-            None => Outcome::PassedOver(why),
-        }
+        self.answer
+            .map_or(Outcome::PassedOver(why), Outcome::Answered)
     }
 }

@@ -1,16 +1,12 @@
 -- What a move takes from one tank it adds to the other.
-use Rattle.std.proofs.Common.{◌≡◌, ℕ, ◌+◌, ◌-◌, ◌<◌, ◌≤◌, Bool, true, false, cond, ◌||◌, eqb, ltb, length, Some, sym, refl, ap, arith, length-set, get_or-set_other}
+use Rattle.std.proofs.Common.{◌≡◌, ℕ, ◌+◌, ◌-◌, ◌<◌, ◌≤◌, false, ◌||◌, eqb, ltb, length, Some, sym, refl, ap, arith, length-set, get_or-set_other}
 use Rattle.std.proofs.lemmas.List.Sums.{sum_by-set}
 use Rattle.std.proofs.lemmas.Bool.{cond_both, eqb-true, eqb-false, ltb-false, or_parts}
+use Rattle.application.proofs.Passed.{passed}
 use Rattle.tanks.specs.declared.farm.Farm.{Farm}
 use Rattle.tanks.specs.declared.order.TankOrder.TheVariants.{Move}
 use Rattle.tanks.specs.Farm.{no_tank, tank_in, with_litres, code_of_move, moved, carried_out}
 use Rattle.tanks.specs.Laws.{total}
-
-passed : (p a : Bool) → ◌≡◌ {A = ℕ} (cond p 2 (cond a 4 0)) 0 → (p ≡ false) × (a ≡ false)
-passed true a e = absurd (omega (arith, e))
-passed false true e = absurd (omega (arith, e))
-passed false false e = (refl, refl)
 
 -- new litres in one tank
 with_litres_total : (f : Farm) (tank litres : ℕ) → tank < length f.tanks → total (with_litres f tank litres) + (tank_in f tank).litres ≡ total f + litres
@@ -20,11 +16,11 @@ done_total : (f : Farm) (client from to litres : ℕ) → length f.tanks ≡ 64 
 done_total f client from to litres long e =
     let source : ℕ = (tank_in f from).litres in
     let target : ℕ = (tank_in f to).litres in
-    let a = passed (ltb 63 from || (ltb 63 to || (ltb 31 client || eqb from to))) (ltb source litres || ltb 100000 (target + litres)) e in
+    let a = passed (ltb 63 from || (ltb 63 to || (ltb 31 client || eqb from to))) false (ltb source litres || ltb 100000 (target + litres)) e in
     let p = or_parts (ltb 63 from) (ltb 63 to || (ltb 31 client || eqb from to)) a.0 in
     let q = or_parts (ltb 63 to) (ltb 31 client || eqb from to) p.1 in
     let ne : (from ≡ to) → ⊥ = eqb-false from to (or_parts (ltb 31 client) (eqb from to) q.1).1 in
-    let enough : litres ≤ source = ltb-false source litres (or_parts (ltb source litres) (ltb 100000 (target + litres)) a.1).0 in
+    let enough : litres ≤ source = ltb-false source litres (or_parts (ltb source litres) (ltb 100000 (target + litres)) a.2).0 in
     let here : from < length f.tanks = omega (arith, long, ltb-false 63 from p.0) in
     let g : Farm = with_litres f from (source - litres) in
     let same : length g.tanks ≡ length f.tanks = length-set f.tanks from _ in

@@ -1,5 +1,7 @@
 -- What an order does to the tanks: a code, and the tanks after it.
-use Rattle.std.specs.Prelude.{ℕ, ◌+◌, ◌-◌, Bool, cond, ◌||◌, ℤ, pos, negsuc, Some, None, Option, ◌==◌, int_lt, nat_lt, slice_index_or, slice_set}
+use Rattle.std.specs.Prelude.{ℕ, ◌+◌, ◌-◌, Bool, cond, ◌||◌, ℤ, pos, negsuc, Some, None, Ok, Err, Option, Result, ◌==◌, int_lt, nat_lt, slice_index_or, slice_set}
+use Rattle.application.specs.declared.codes.Reject.{Reject}
+use Rattle.application.specs.declared.codes.Reject.TheVariants.{BadPlace}
 use Rattle.application.specs.Codes.{done, unknown, bad_place, bad_value, bad_amount}
 use Rattle.tanks.specs.declared.tank.Tank.{Tank}
 use Rattle.tanks.specs.declared.farm.Farm.{Farm}
@@ -12,6 +14,14 @@ no_tank = record { litres = 0; set_point = pos 0 }
 
 abbrev pub tank_in : Farm → ℕ → Tank
 tank_in f tank = slice_index_or f.tanks tank no_tank
+
+-- what can be read of the farm
+abbrev pub read_tank : Farm → ℕ → Option Tank
+read_tank f tank = cond (nat_lt 63 tank) None (Some (tank_in f tank))
+
+-- the tank of an order, if there are such a client and such a tank
+abbrev pub held : Farm → ℕ → ℕ → Result Tank Reject
+held f client tank = cond (nat_lt 63 tank || nat_lt 31 client) (Err BadPlace) (Ok (tank_in f tank))
 
 -- a set point is below -500 or above 3,000 (negsuc 499 is -500)
 abbrev pub out_of_range : ℤ → Bool

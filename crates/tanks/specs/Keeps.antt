@@ -1,8 +1,9 @@
 -- Every order keeps what holds of the tanks; so the tanks after an order are tanks.
-use Rattle.std.specs.Prelude.{◌≡◌, ℕ, ◌+◌, ◌-◌, ◌≤◌, Bool, true, false, cond, ◌||◌, length, ℤ, Some, None, Option, ◌==◌, nat_lt, refl}
+use Rattle.std.specs.Prelude.{◌≡◌, ℕ, ◌+◌, ◌-◌, ◌≤◌, false, ◌||◌, length, ℤ, Some, None, Option, ◌==◌, nat_lt}
 use Rattle.std.proofs.Common.{◌∙◌, arith, length-set}
 use Rattle.std.proofs.lemmas.Bool.{cond_both, eqb-true, ltb-false, or_parts}
 use Rattle.application.proofs.Each.{each_set}
+use Rattle.application.proofs.Passed.{passed}
 use Rattle.tanks.specs.declared.farm.Farm.{Farm}
 use Rattle.tanks.specs.declared.order.TankOrder.{TankOrder}
 use Rattle.tanks.specs.declared.order.TankOrder.TheVariants.{SetPoint, SetLitres, Move}
@@ -12,13 +13,6 @@ pub record Sound (f : Farm) : Type 0 where
   pub long : length f.tanks ≡ 64
   pub level : (tank : ℕ) → (tank_in f tank).litres ≤ 100000
   pub warmth : (tank : ℕ) → out_of_range (tank_in f tank).set_point ≡ false
-
--- a code that is 0 passed each test before it
-passed : (p v a : Bool) → ◌≡◌ {A = ℕ} (cond p 2 (cond v 3 (cond a 4 0))) 0 → (p ≡ false) × (v ≡ false) × (a ≡ false)
-passed true v a e = absurd (omega (arith, e))
-passed false true a e = absurd (omega (arith, e))
-passed false false true e = absurd (omega (arith, e))
-passed false false false e = (refl, refl, refl)
 
 -- a tank with new litres that it can hold, and one with a new set point in range
 litres_keep : (f : Farm) (tank litres : ℕ) → Sound f → litres ≤ 100000 → Sound (with_litres f tank litres)

@@ -1,10 +1,12 @@
 // How the tanks change.
 ghost use Rattle.std.specs.Prelude.{◌≡◌, ℕ, ◌≤◌};
-ghost use Rattle.tanks.specs.Farm.{tank_in, code_of, code_of_set_point, code_of_set_litres, code_of_move, with_set_point, with_litres, moved, carried_out, if_done};
+ghost use Rattle.application.specs.Codes.{answer_code};
+ghost use Rattle.tanks.specs.Farm.{held, tank_in, code_of, code_of_set_point, code_of_set_litres, code_of_move, with_set_point, with_litres, moved, carried_out, if_done};
 
-use crate::farm::{Farm, LAST_TANK};
+use crate::farm::Farm;
 use crate::order::TankOrder;
-use application::codes::{BAD_AMOUNT, BAD_PLACE, BAD_VALUE, DONE, UNKNOWN};
+use crate::tank::Tank;
+use application::codes::Reject;
 use application::interface::LAST_CLIENT;
 
 const CAPACITY: u32 = 100_000;
@@ -14,67 +16,79 @@ const COLDEST: i16 = -500;
 const WARMEST: i16 = 3000;
 
 impl Farm {
-    fn set_point(&mut self, client: u8, tank: u8, to: i16) -> u8
-        ensures value { result ≡ code_of_set_point client tank to }
-        ensures after { self.new ≡ if_done result (with_set_point self.old tank to) self.old }
+    // What a tank holds, if there are such a client and such a tank.
+    fn held(&self, client: u8, tank: u8) -> Result<Tank, Reject>
+        ensures { result ≡ held self.now client tank }
     {
-        if tank > LAST_TANK || client > LAST_CLIENT {
-            return BAD_PLACE;
+        if client > LAST_CLIENT {
+            return Err(Reject::BadPlace);
         }
-        if to < COLDEST || to > WARMEST {
-            return BAD_VALUE;
-        }
-        self.tanks[tank as usize].set_point = to;
-        DONE
+        self.tank(tank).ok_or(Reject::BadPlace)
     }
 
-    fn set_litres(&mut self, client: u8, tank: u8, litres: u32) -> u8
-        ensures value { result ≡ code_of_set_litres client tank litres }
-        ensures after { self.new ≡ if_done result (with_litres self.old tank litres) self.old }
+    fn set_point(&mut self, client: u8, tank: u8, to: i16) -> Result<(), Reject>
+        ensures value { answer_code result ≡ code_of_set_point client tank to }
+        ensures after { self.new ≡ if_done (answer_code result) (with_set_point self.old tank to) self.old }
     {
-        if tank > LAST_TANK || client > LAST_CLIENT {
-            return BAD_PLACE;
+        let held = self.held(client, tank)?;
+        if !(COLDEST..=WARMEST).contains(&to) {
+            return Err(Reject::BadValue);
         }
+        self.tanks[usize::from(tank)] = Tank {
+            set_point: to,
+            ..held
+        };
+        Ok(())
+    }
+
+    fn set_litres(&mut self, client: u8, tank: u8, litres: u32) -> Result<(), Reject>
+        ensures value { answer_code result ≡ code_of_set_litres client tank litres }
+        ensures after { self.new ≡ if_done (answer_code result) (with_litres self.old tank litres) self.old }
+    {
+        let held = self.held(client, tank)?;
         if litres > CAPACITY {
-            return BAD_VALUE;
+            return Err(Reject::BadValue);
         }
-        self.tanks[tank as usize].litres = litres;
-        DONE
+        self.tanks[usize::from(tank)] = Tank { litres, ..held };
+        Ok(())
     }
 
-    fn move_litres(&mut self, client: u8, from: u8, to: u8, litres: u32) -> u8
+    fn move_litres(&mut self, client: u8, from: u8, to: u8, litres: u32) -> Result<(), Reject>
         requires { (tank : ℕ) → (tank_in self.old tank).litres ≤ 100000 }
-        ensures value { result ≡ code_of_move self.old client from to litres }
-        ensures after { self.new ≡ if_done result (moved self.old from to litres) self.old }
+        ensures value { answer_code result ≡ code_of_move self.old client from to litres }
+        ensures after { self.new ≡ if_done (answer_code result) (moved self.old from to litres) self.old }
     {
-        if from > LAST_TANK || to > LAST_TANK || client > LAST_CLIENT || from == to {
-            return BAD_PLACE;
+        let source = self.held(client, from)?;
+        let target = self.held(client, to)?;
+        if from == to {
+            return Err(Reject::BadPlace);
         }
-        let source = self.tanks[from as usize].litres;
-        let target = self.tanks[to as usize].litres;
-        if source < litres || target + litres > CAPACITY {
-            return BAD_AMOUNT;
+        let left = source.litres.checked_sub(litres).ok_or(Reject::BadAmount)?;
+        let filled = target.litres + litres;
+        if filled > CAPACITY {
+            return Err(Reject::BadAmount);
         }
-        self.tanks[from as usize].litres = source - litres;
-        self.tanks[to as usize].litres = target + litres;
-        DONE
+        self.tanks[usize::from(from)] = Tank {
+            litres: left,
+            ..source
+        };
+        self.tanks[usize::from(to)] = Tank {
+            litres: filled,
+            ..target
+        };
+        Ok(())
     }
 
     // Carries out an order, or answers why not.
-    pub(crate) fn carry_out(&mut self, client: u8, order: Option<TankOrder>) -> u8
+    pub(crate) fn carry_out(&mut self, client: u8, order: Option<TankOrder>) -> Result<(), Reject>
         requires { (tank : ℕ) → (tank_in self.old tank).litres ≤ 100000 }
-        ensures value { result ≡ code_of self.old client order }
+        ensures value { answer_code result ≡ code_of self.old client order }
         ensures after { self.new ≡ carried_out self.old client order }
     {
-        match order {
-            None => UNKNOWN,
-            Some(TankOrder::SetPoint { tank, set_point }) => self.set_point(
-                client, tank, set_point,
-            ),
-            Some(TankOrder::SetLitres { tank, litres }) => self.set_litres(client, tank, litres),
-            Some(TankOrder::Move { from, to, litres }) => self.move_litres(
-                client, from, to, litres,
-            ),
+        match order.ok_or(Reject::Unknown)? {
+            TankOrder::SetPoint { tank, set_point } => self.set_point(client, tank, set_point),
+            TankOrder::SetLitres { tank, litres } => self.set_litres(client, tank, litres),
+            TankOrder::Move { from, to, litres } => self.move_litres(client, from, to, litres),
         }
     }
 }

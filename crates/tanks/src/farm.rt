@@ -1,9 +1,19 @@
 // The tank farm.
-use crate::tank::Tank;
+ghost use Rattle.std.specs.Prelude.{◌≡◌};
+ghost use Rattle.tanks.specs.Farm.{read_tank};
 
-pub(crate) const LAST_TANK: u8 = 63;
+use crate::tank::Tank;
 
 #[derive(Clone, Copy)]
 pub struct Farm {
     pub tanks: [Tank; 64],
+}
+
+impl Farm {
+    // What a tank holds, if there is such a tank.
+    pub(crate) fn tank(&self, tank: u8) -> Option<Tank>
+        ensures { result ≡ read_tank self.now tank }
+    {
+        self.tanks.get(usize::from(tank)).copied()
+    }
 }

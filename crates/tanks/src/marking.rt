@@ -1,6 +1,5 @@
 // The mark of the tanks: FNV-1a over their numbers.
 ghost use Rattle.std.specs.Prelude.{◌≡◌};
-ghost use Rattle.std.specs.List.{flat_map};
 ghost use Rattle.digest.specs.Fnv.{fnv_from, fnv1a};
 ghost use Rattle.tanks.specs.Mark.{tank_bytes, farm_bytes};
 
@@ -17,20 +16,12 @@ impl Tank {
     }
 }
 
-fn absorb_tanks(hash: u64, tanks: &[Tank]) -> u64
-    ensures { result ≡ fnv_from hash (flat_map tank_bytes tanks.now) }
-{
-    let mut h = hash;
-    for t in tanks {
-        h = t.absorb(h);
-    }
-    h
-}
-
 impl Farm {
     pub(crate) fn fnv1a(&self) -> u64
         ensures { result ≡ fnv1a (farm_bytes self.now) }
     {
-        absorb_tanks(offset_basis(), &self.tanks)
+        self.tanks
+            .iter()
+            .fold(offset_basis(), |hash, tank| tank.absorb(hash))
     }
 }

@@ -2,10 +2,11 @@
 ghost use Rattle.std.specs.Prelude.{◌≡◌};
 ghost use Rattle.tanks.specs.Tanks.{new_tanks, after, answer, mark_of, tank_at};
 
-use crate::farm::{Farm, LAST_TANK};
+use crate::farm::Farm;
 use crate::order::order_of;
 use crate::state::Tanks;
 use crate::tank::Tank;
+use application::codes::answer_code;
 use application::interface::Application;
 
 impl Tanks {
@@ -25,10 +26,7 @@ impl Tanks {
     pub fn tank(&self, tank: u8) -> Option<Tank>
         ensures { result ≡ tank_at self.now tank }
     {
-        if tank > LAST_TANK {
-            return None;
-        }
-        Some(self.farm.tanks[tank as usize])
+        self.farm.tank(tank)
     }
 }
 
@@ -40,7 +38,7 @@ impl Application for Tanks {
     ghost marked = { mark_of };
 
     fn apply(&mut self, client: u8, timestamp: u32, payload: u64) -> u8 {
-        self.farm.carry_out(client, order_of(payload))
+        answer_code(self.farm.carry_out(client, order_of(payload)))
     }
 
     fn mark(&self) -> u64 {

@@ -1,5 +1,6 @@
-// Text that programs read: frames in hexadecimal.
+// Text that programs read: frames in hexadecimal, and numbers.
 #![tactic(auto)]
 
 pub mod fault;
 pub mod hex;
+pub mod numbers;

@@ -8,6 +8,13 @@ use Rattle.valves.specs.declared.order.ValveOrder.TheVariants.{Open, Pay}
 abbrev pub account : Book → ℕ → ℕ
 account b client = slice_index b.accounts client
 
+-- what can be read of the book
+abbrev pub read_account : Book → ℕ → Option ℕ
+read_account b client = cond (nat_lt 31 client) None (Some (account b client))
+
+abbrev pub read_opening : Book → ℕ → Option ℕ
+read_opening b valve = cond (nat_lt 63 valve) None (Some (slice_index b.openings valve))
+
 -- opening a valve costs the absolute change of its opening
 abbrev pub price : Book → ℕ → ℕ → ℕ
 price b valve opening = (slice_index b.openings valve - opening) + (opening - slice_index b.openings valve)

@@ -1,9 +1,10 @@
 -- Every order keeps what holds of the valves; so the valves after an order are valves.
-use Rattle.std.specs.Prelude.{◌≡◌, ℕ, ◌+◌, ◌-◌, ◌<◌, ◌≤◌, Bool, true, false, cond, ◌||◌, List, length, Some, None, sum, Option, ◌==◌, nat_lt, slice_index, slice_index_or, slice_set, refl}
+use Rattle.std.specs.Prelude.{◌≡◌, ℕ, ◌+◌, ◌-◌, ◌<◌, ◌≤◌, false, ◌||◌, List, length, Some, None, sum, Option, ◌==◌, nat_lt, slice_index, slice_index_or, slice_set}
 use Rattle.std.proofs.Common.{◌∙◌, arith, length-set, get_or-set_other}
 use Rattle.std.proofs.lemmas.List.Sums.{sum_by-set}
 use Rattle.std.proofs.lemmas.Bool.{cond_both, eqb-true, eqb-false, ltb-false, or_parts}
 use Rattle.application.proofs.Each.{each_set}
+use Rattle.application.proofs.Passed.{passed}
 use Rattle.valves.specs.declared.book.Book.{Book}
 use Rattle.valves.specs.declared.order.ValveOrder.{ValveOrder}
 use Rattle.valves.specs.declared.order.ValveOrder.TheVariants.{Open, Pay}
@@ -13,13 +14,6 @@ pub record Sound (b : Book) : Type 0 where
   pub long : length b.accounts ≡ 32
   pub whole : sum b.accounts + b.plant ≡ 320000
   pub within : (valve : ℕ) → slice_index b.openings valve ≤ 1000
-
--- a code that is 0 passed each test before it
-passed : (p v a : Bool) → ◌≡◌ {A = ℕ} (cond p 2 (cond v 3 (cond a 4 0))) 0 → (p ≡ false) × (v ≡ false) × (a ≡ false)
-passed true v a e = absurd (omega (arith, e))
-passed false true a e = absurd (omega (arith, e))
-passed false false true e = absurd (omega (arith, e))
-passed false false false e = (refl, refl, refl)
 
 open_keeps : (b : Book) (client valve opening : ℕ) → Sound b → code_of_open b client valve opening ≡ 0 → Sound (opened b client valve opening)
 open_keeps b client valve opening h e =

@@ -1,5 +1,6 @@
 // What the valves hold: the clients' accounts, the plant's account, and how far each valve is open.
-pub(crate) const LAST_VALVE: u8 = 63;
+ghost use Rattle.std.specs.Prelude.{◌≡◌};
+ghost use Rattle.valves.specs.Book.{read_account, read_opening};
 
 #[derive(Clone, Copy)]
 pub struct Book {
@@ -7,4 +8,20 @@ pub struct Book {
     pub plant: u32,
     // of each valve, 0 to 1,000
     pub openings: [u16; 64],
+}
+
+impl Book {
+    // What a client has, if there is such a client.
+    pub(crate) fn account(&self, client: u8) -> Option<u32>
+        ensures { result ≡ read_account self.now client }
+    {
+        self.accounts.get(usize::from(client)).copied()
+    }
+
+    // How far a valve is open, if there is such a valve.
+    pub(crate) fn opening(&self, valve: u8) -> Option<u16>
+        ensures { result ≡ read_opening self.now valve }
+    {
+        self.openings.get(usize::from(valve)).copied()
+    }
 }

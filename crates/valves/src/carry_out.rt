@@ -1,67 +1,60 @@
 // How the book changes.
 ghost use Rattle.std.specs.Prelude.{◌≡◌, ◌+◌, ◌≤◌, sum};
+ghost use Rattle.application.specs.Codes.{answer_code};
 ghost use Rattle.valves.specs.Book.{code_of, code_of_open, code_of_pay, opened, paid, carried_out, if_done};
 
-use crate::book::{Book, LAST_VALVE};
+use crate::book::Book;
 use crate::order::ValveOrder;
-use application::codes::{BAD_AMOUNT, BAD_PLACE, BAD_VALUE, DONE, UNKNOWN};
-use application::interface::LAST_CLIENT;
+use application::codes::Reject;
 
 const WIDE_OPEN: u16 = 1000;
 
 impl Book {
     // Opens a valve; the client pays the change to the plant.
-    fn open(&mut self, client: u8, valve: u8, opening: u16) -> u8
+    fn open(&mut self, client: u8, valve: u8, opening: u16) -> Result<(), Reject>
         requires { sum self.old.accounts + self.old.plant ≤ 320000 }
-        ensures value { result ≡ code_of_open self.old client valve opening }
-        ensures after { self.new ≡ if_done result (opened self.old client valve opening) self.old }
+        ensures value { answer_code result ≡ code_of_open self.old client valve opening }
+        ensures after { self.new ≡ if_done (answer_code result) (opened self.old client valve opening) self.old }
     {
-        if valve > LAST_VALVE || client > LAST_CLIENT {
-            return BAD_PLACE;
-        }
+        let before = self.opening(valve).ok_or(Reject::BadPlace)?;
+        let balance = self.account(client).ok_or(Reject::BadPlace)?;
         if opening > WIDE_OPEN {
-            return BAD_VALUE;
+            return Err(Reject::BadValue);
         }
-        let price = u32::from(self.openings[valve as usize].abs_diff(opening));
-        let balance = self.accounts[client as usize];
-        if balance < price {
-            return BAD_AMOUNT;
-        }
-        self.accounts[client as usize] = balance - price;
+        let price = u32::from(before.abs_diff(opening));
+        let left = balance.checked_sub(price).ok_or(Reject::BadAmount)?;
+        self.accounts[usize::from(client)] = left;
         self.plant += price;
-        self.openings[valve as usize] = opening;
-        DONE
+        self.openings[usize::from(valve)] = opening;
+        Ok(())
     }
 
     // Pays another client.
-    fn pay(&mut self, client: u8, to: u8, units: u32) -> u8
+    fn pay(&mut self, client: u8, to: u8, units: u32) -> Result<(), Reject>
         requires { sum self.old.accounts + self.old.plant ≤ 320000 }
-        ensures value { result ≡ code_of_pay self.old client to units }
-        ensures after { self.new ≡ if_done result (paid self.old client to units) self.old }
+        ensures value { answer_code result ≡ code_of_pay self.old client to units }
+        ensures after { self.new ≡ if_done (answer_code result) (paid self.old client to units) self.old }
     {
-        if to > LAST_CLIENT || client > LAST_CLIENT || to == client {
-            return BAD_PLACE;
+        let balance = self.account(client).ok_or(Reject::BadPlace)?;
+        let received = self.account(to).ok_or(Reject::BadPlace)?;
+        if to == client {
+            return Err(Reject::BadPlace);
         }
-        let balance = self.accounts[client as usize];
-        let received = self.accounts[to as usize];
-        if balance < units {
-            return BAD_AMOUNT;
-        }
-        self.accounts[client as usize] = balance - units;
-        self.accounts[to as usize] = received + units;
-        DONE
+        let left = balance.checked_sub(units).ok_or(Reject::BadAmount)?;
+        self.accounts[usize::from(client)] = left;
+        self.accounts[usize::from(to)] = received + units;
+        Ok(())
     }
 
     // Carries out an order, or answers why not.
-    pub(crate) fn carry_out(&mut self, client: u8, order: Option<ValveOrder>) -> u8
+    pub(crate) fn carry_out(&mut self, client: u8, order: Option<ValveOrder>) -> Result<(), Reject>
         requires { sum self.old.accounts + self.old.plant ≤ 320000 }
-        ensures value { result ≡ code_of self.old client order }
+        ensures value { answer_code result ≡ code_of self.old client order }
         ensures after { self.new ≡ carried_out self.old client order }
     {
-        match order {
-            None => UNKNOWN,
-            Some(ValveOrder::Open { valve, opening }) => self.open(client, valve, opening),
-            Some(ValveOrder::Pay { to, units }) => self.pay(client, to, units),
+        match order.ok_or(Reject::Unknown)? {
+            ValveOrder::Open { valve, opening } => self.open(client, valve, opening),
+            ValveOrder::Pay { to, units } => self.pay(client, to, units),
         }
     }
 }

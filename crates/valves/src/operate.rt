@@ -2,10 +2,11 @@
 ghost use Rattle.std.specs.Prelude.{◌≡◌};
 ghost use Rattle.valves.specs.Valves.{new_valves, after, answer, mark_of, account_at, plant_of, opening_at};
 
-use crate::book::{Book, LAST_VALVE};
+use crate::book::Book;
 use crate::order::order_of;
 use crate::state::Valves;
-use application::interface::{Application, LAST_CLIENT};
+use application::codes::answer_code;
+use application::interface::Application;
 
 impl Valves {
     pub fn new() -> Valves
@@ -24,10 +25,7 @@ impl Valves {
     pub fn account(&self, client: u8) -> Option<u32>
         ensures { result ≡ account_at self.now client }
     {
-        if client > LAST_CLIENT {
-            return None;
-        }
-        Some(self.book.accounts[client as usize])
+        self.book.account(client)
     }
 
     // What the plant has.
@@ -41,10 +39,7 @@ impl Valves {
     pub fn opening(&self, valve: u8) -> Option<u16>
         ensures { result ≡ opening_at self.now valve }
     {
-        if valve > LAST_VALVE {
-            return None;
-        }
-        Some(self.book.openings[valve as usize])
+        self.book.opening(valve)
     }
 }
 
@@ -56,7 +51,7 @@ impl Application for Valves {
     ghost marked = { mark_of };
 
     fn apply(&mut self, client: u8, timestamp: u32, payload: u64) -> u8 {
-        self.book.carry_out(client, order_of(payload))
+        answer_code(self.book.carry_out(client, order_of(payload)))
     }
 
     fn mark(&self) -> u64 {

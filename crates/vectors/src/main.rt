@@ -1,64 +1,54 @@
 // The published vectors of FNV-1a 64 and SHA-256, beside what the digests give for them.
 #![tactic(auto)]
 
+ghost use Rattle.std.specs.Prelude.{◌≤◌, length, IfOk};
+
 mod published;
 mod words;
 
 use digest::fnv::Fnv1a;
-use digest::interface::Digest;
-use digest::sha256::sha256;
 use digest::truncated::Sha256;
-use published::{FNV, FnvVector, SHA256, Sha256Vector};
-use words::four_words;
+use published::{FNV, SHA256, Vector};
+use words::Published;
 
-fn verdict(same: bool) -> &'static str {
-    if same { "as published" } else { "WRONG" }
-}
-
-fn compare_fnv(rt: &HostRuntime, vector: &FnvVector) -> anyhow::Result<bool> {
-    let FnvVector { message, digest } = *vector;
-    let found = Fnv1a.digest(message.as_bytes()).word;
-    let same = found == digest;
-    println!(rt;
-        "FNV-1a 64 of \"{message}\": {found:016x} {}",
-        verdict(same)
-    )?;
+// Whether the message has the digest that is published.
+fn compare<const N: usize, D: Published<N>>(
+    rt: &HostRuntime,
+    digest: &D,
+    vector: &Vector<N>,
+) -> anyhow::Result<bool> {
+    let text = vector.message.text(rt.alloc())?;
+    let message = text.as_str().as_bytes();
+    let found = digest.words(message);
+    let same = found == vector.digest && found.first() == Some(&digest.digest(message).word);
+    print!(rt; "{} of {}: ", digest.name(), vector.message)?;
+    for word in &found {
+        print!(rt; "{word:016x}")?;
+    }
+    println!(rt; " {}", if same { "as published" } else { "WRONG" })?;
     Ok(same)
 }
 
-fn compare_sha256(rt: &HostRuntime, vector: &Sha256Vector) -> anyhow::Result<bool> {
-    let Sha256Vector {
-        name,
-        part,
-        times,
-        digest,
-    } = *vector;
-    let text = part.repeat(rt.alloc(), times)?;
-    let message = text.as_str().as_bytes();
-    let found = four_words(&sha256(message));
-    let same = found == digest && Sha256.digest(message).word == digest[0];
-    let [a, b, c, d] = found;
-    println!(rt;
-        "SHA-256 of {name}: {a:016x}{b:016x}{c:016x}{d:016x} {}",
-        verdict(same)
-    )?;
+// How many of the vectors are as published.
+fn compare_all<const N: usize, D: Published<N>>(
+    rt: &HostRuntime,
+    digest: &D,
+    vectors: &[Vector<N>],
+) -> anyhow::Result<usize>
+    ensures { IfOk result (λ same. same ≤ length vectors.now) }
+{
+    let mut same = 0usize;
+    for vector in vectors {
+        if compare(rt, digest, vector)? {
+            same += 1;
+        }
+    }
     Ok(same)
 }
 
 fn run(rt: &HostRuntime) -> anyhow::Result<()> {
-    let mut same = 0usize;
-    for v in &FNV {
-        if compare_fnv(rt, v)? {
-            same += 1;
-        }
-    }
-    for v in &SHA256 {
-        if compare_sha256(rt, v)? {
-            same += 1;
-        }
-    }
-    let all = FNV.len() + SHA256.len();
-    println!(rt; "{same} of {all} as published")?;
+    let same = compare_all(rt, &Fnv1a, &FNV)? + compare_all(rt, &Sha256, &SHA256)?;
+    println!(rt; "{same} of {} as published", FNV.len() + SHA256.len())?;
     Ok(())
 }
 

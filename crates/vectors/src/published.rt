@@ -1,76 +1,101 @@
 // What is published: FNV-1a of 64 bits by its authors, SHA-256 by NIST in the examples to FIPS 180-4.
+use std::alloc::{AllocError, Global};
+use std::fmt;
 
 #[derive(Clone, Copy)]
-pub struct FnvVector {
-    pub message: &'static str,
-    pub digest: u64,
+pub enum Message {
+    Text(&'static str),
+    // `part` so many times over
+    Named {
+        name: &'static str,
+        part: &'static str,
+        times: usize,
+    },
 }
 
-pub const FNV: [FnvVector; 12] = [
-    FnvVector {
-        message: "",
-        digest: 0xcbf29ce484222325,
+impl Message {
+    pub(crate) fn text(&self, alloc: Global) -> Result<String, AllocError> {
+        match *self {
+            Message::Text(text) => String::from_str(alloc, text),
+            Message::Named { part, times, .. } => part.repeat(alloc, times),
+        }
+    }
+}
+
+impl fmt::Display for Message {
+    fn fmt<W: fmt::Write>(&self, f: &mut fmt::Formatter<W>) -> fmt::Result {
+        match *self {
+            Message::Text(text) => write!(f, "\"{text}\""),
+            Message::Named { name, .. } => f.write_str(name),
+        }
+    }
+}
+
+// A message, and its digest as big-endian numbers of 64 bits.
+#[derive(Clone, Copy)]
+pub struct Vector<const N: usize> {
+    pub message: Message,
+    pub digest: [u64; N],
+}
+
+pub const FNV: [Vector<1>; 12] = [
+    Vector {
+        message: Message::Text(""),
+        digest: [0xcbf29ce484222325],
     },
-    FnvVector {
-        message: "a",
-        digest: 0xaf63dc4c8601ec8c,
+    Vector {
+        message: Message::Text("a"),
+        digest: [0xaf63dc4c8601ec8c],
     },
-    FnvVector {
-        message: "b",
-        digest: 0xaf63df4c8601f1a5,
+    Vector {
+        message: Message::Text("b"),
+        digest: [0xaf63df4c8601f1a5],
     },
-    FnvVector {
-        message: "c",
-        digest: 0xaf63de4c8601eff2,
+    Vector {
+        message: Message::Text("c"),
+        digest: [0xaf63de4c8601eff2],
     },
-    FnvVector {
-        message: "d",
-        digest: 0xaf63d94c8601e773,
+    Vector {
+        message: Message::Text("d"),
+        digest: [0xaf63d94c8601e773],
     },
-    FnvVector {
-        message: "e",
-        digest: 0xaf63d84c8601e5c0,
+    Vector {
+        message: Message::Text("e"),
+        digest: [0xaf63d84c8601e5c0],
     },
-    FnvVector {
-        message: "f",
-        digest: 0xaf63db4c8601ead9,
+    Vector {
+        message: Message::Text("f"),
+        digest: [0xaf63db4c8601ead9],
     },
-    FnvVector {
-        message: "fo",
-        digest: 0x08985907b541d342,
+    Vector {
+        message: Message::Text("fo"),
+        digest: [0x08985907b541d342],
     },
-    FnvVector {
-        message: "foo",
-        digest: 0xdcb27518fed9d577,
+    Vector {
+        message: Message::Text("foo"),
+        digest: [0xdcb27518fed9d577],
     },
-    FnvVector {
-        message: "foob",
-        digest: 0xdd120e790c2512af,
+    Vector {
+        message: Message::Text("foob"),
+        digest: [0xdd120e790c2512af],
     },
-    FnvVector {
-        message: "fooba",
-        digest: 0xcac165afa2fef40a,
+    Vector {
+        message: Message::Text("fooba"),
+        digest: [0xcac165afa2fef40a],
     },
-    FnvVector {
-        message: "foobar",
-        digest: 0x85944171f73967e8,
+    Vector {
+        message: Message::Text("foobar"),
+        digest: [0x85944171f73967e8],
     },
 ];
 
-// The message is `part` so many times over; the digest is given as four big-endian numbers.
-#[derive(Clone, Copy)]
-pub struct Sha256Vector {
-    pub name: &'static str,
-    pub part: &'static str,
-    pub times: usize,
-    pub digest: [u64; 4],
-}
-
-pub const SHA256: [Sha256Vector; 5] = [
-    Sha256Vector {
-        name: "the empty message",
-        part: "",
-        times: 1,
+pub const SHA256: [Vector<4>; 5] = [
+    Vector {
+        message: Message::Named {
+            name: "the empty message",
+            part: "",
+            times: 1,
+        },
         digest: [
             0xe3b0c44298fc1c14,
             0x9afbf4c8996fb924,
@@ -78,10 +103,8 @@ pub const SHA256: [Sha256Vector; 5] = [
             0xa495991b7852b855,
         ],
     },
-    Sha256Vector {
-        name: "\"abc\"",
-        part: "abc",
-        times: 1,
+    Vector {
+        message: Message::Text("abc"),
         digest: [
             0xba7816bf8f01cfea,
             0x414140de5dae2223,
@@ -89,10 +112,12 @@ pub const SHA256: [Sha256Vector; 5] = [
             0xb410ff61f20015ad,
         ],
     },
-    Sha256Vector {
-        name: "the 448-bit message",
-        part: "abcdbcdecdefdefgefghfghighijhijkijkljklmklmnlmnomnopnopq",
-        times: 1,
+    Vector {
+        message: Message::Named {
+            name: "the 448-bit message",
+            part: "abcdbcdecdefdefgefghfghighijhijkijkljklmklmnlmnomnopnopq",
+            times: 1,
+        },
         digest: [
             0x248d6a61d20638b8,
             0xe5c026930c3e6039,
@@ -100,10 +125,12 @@ pub const SHA256: [Sha256Vector; 5] = [
             0xf6ecedd419db06c1,
         ],
     },
-    Sha256Vector {
-        name: "the 896-bit message",
-        part: "abcdefghbcdefghicdefghijdefghijkefghijklfghijklmghijklmnhijklmnoijklmnopjklmnopqklmnopqrlmnopqrsmnopqrstnopqrstu",
-        times: 1,
+    Vector {
+        message: Message::Named {
+            name: "the 896-bit message",
+            part: "abcdefghbcdefghicdefghijdefghijkefghijklfghijklmghijklmnhijklmnoijklmnopjklmnopqklmnopqrlmnopqrsmnopqrstnopqrstu",
+            times: 1,
+        },
         digest: [
             0xcf5b16a778af8380,
             0x036ce59e7b049237,
@@ -111,10 +138,12 @@ pub const SHA256: [Sha256Vector; 5] = [
             0xafac45037afee9d1,
         ],
     },
-    Sha256Vector {
-        name: "one million \"a\"",
-        part: "a",
-        times: 1_000_000,
+    Vector {
+        message: Message::Named {
+            name: "one million \"a\"",
+            part: "a",
+            times: 1_000_000,
+        },
         digest: [
             0xcdc76e5c9914fb92,
             0x81a1c7e284d73e67,

@@ -1,31 +1,48 @@
-// A digest of 32 bytes as numbers, to be held against published ones.
-ghost use Rattle.std.specs.Prelude.{◌≡◌, ◌+◌, ◌≤◌, [], ◌∷◌};
+// Digests as numbers, to be held against published ones.
+ghost use Rattle.std.specs.Prelude.{◌≡◌, [], ◌∷◌};
 ghost use Rattle.digest.specs.Words.{eight_at};
 
-fn eight_at(digest: &[u8; 32], i: usize) -> u64
-    requires { i + 8 ≤ 32 }
-    ensures { result ≡ eight_at digest.now i }
-{
-    u64::from_be_bytes([
-        digest[i],
-        digest[i + 1],
-        digest[i + 2],
-        digest[i + 3],
-        digest[i + 4],
-        digest[i + 5],
-        digest[i + 6],
-        digest[i + 7],
-    ])
+use digest::fnv::Fnv1a;
+use digest::interface::Digest;
+use digest::sha256::sha256;
+use digest::truncated::Sha256;
+
+// A digest that is published as N big-endian numbers of 64 bits, of which its value is the first.
+pub trait Published<const N: usize>: Digest {
+    fn name(&self) -> &'static str;
+
+    fn words(&self, message: &[u8]) -> [u64; N];
+}
+
+impl Published<1> for Fnv1a {
+    fn name(&self) -> &'static str {
+        "FNV-1a 64"
+    }
+
+    fn words(&self, message: &[u8]) -> [u64; 1] {
+        [self.digest(message).word]
+    }
+}
+
+impl Published<4> for Sha256 {
+    fn name(&self) -> &'static str {
+        "SHA-256"
+    }
+
+    fn words(&self, message: &[u8]) -> [u64; 4] {
+        four_words(&sha256(message))
+    }
 }
 
 // The digest's bytes as four big-endian numbers.
-pub(crate) fn four_words(digest: &[u8; 32]) -> [u64; 4]
+fn four_words(digest: &[u8; 32]) -> [u64; 4]
     ensures { result ≡ eight_at digest.now 0 ∷ eight_at digest.now 8 ∷ eight_at digest.now 16 ∷ eight_at digest.now 24 ∷ [] }
 {
+    let (words, _) = digest.as_chunks::<8>();
     [
-        eight_at(digest, 0),
-        eight_at(digest, 8),
-        eight_at(digest, 16),
-        eight_at(digest, 24),
+        u64::from_be_bytes(words[0]),
+        u64::from_be_bytes(words[1]),
+        u64::from_be_bytes(words[2]),
+        u64::from_be_bytes(words[3]),
     ]
 }

@@ -1,18 +1,12 @@
-use Rattle.std.proofs.Common.{sym, ◌∙◌, arith}
-use Rattle.std.proofs.lemmas.Bool.Decides.{nat_tests}
-use Rattle.std.proofs.lemmas.List.{at_drop_more, at_drop_all}
-use Rattle.text.specs.Hex.{first_bad}
+use Rattle.std.proofs.Common.{ℕ, not, ◌∙◌, tests, rules}
+use Rattle.std.proofs.lemmas.Iterator.{YieldsList-from_slice}
+use Rattle.std.proofs.lemmas.Iterator.Adapters.{position_from-zero}
+use Rattle.std.proofs.lemmas.Iterator.Search.{position_from_yields_List}
+use Rattle.text.specs.Hex.{is_digit}
+use Rattle.text.proofs.Pairs.{first_found}
 use Rattle.text.proofs.hex.bad_digit.Goals as goal
 
-pub returns-then-not-is_hex_digit : goal.returns-then-not-is_hex_digit
-returns-then-not-is_hex_digit c =
-    let step = at_drop_more (first_bad c.loop-i.i) c.args.text.now c.loop-i.i 0 c.loop-i-test.true in
-    grind (arith, nat_tests)
-
-pub loop-i-preserved : goal.loop-i-preserved
-loop-i-preserved c =
-    let step = at_drop_more (first_bad c.loop-i.i) c.args.text.now c.loop-i.i 0 c.loop-i-test.true in
-    grind (arith, nat_tests)
-
 pub returns : goal.returns
-returns c = sym (at_drop_all (first_bad c.loop-i.i) c.args.text.now c.loop-i.i c.loop-i-test.false) ∙ c.loop-i.invariant
+returns c =
+    let found = position_from_yields_List (λ (x : ℕ). not (is_digit x)) _ _ c.position.result c.position.ensures.ran (YieldsList-from_slice c.args.text.now cc) (λ x r q k. search (rules, tests)) in
+    found ∙ (position_from-zero (λ (x : ℕ). not (is_digit x)) c.args.text.now ∙ first_found 0 c.args.text.now)

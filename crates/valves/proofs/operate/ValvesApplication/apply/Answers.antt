@@ -16,5 +16,5 @@ pub returns : goal.returns
 unfolding after answer
 returns c = record {
   after = same_valves _ _ (c.carry_out.ensures.after ∙ ap (carried_out c.args.self.now.book c.args.client) c.order_of.ensures);
-  value = c.carry_out.ensures.value ∙ ap (code_of c.args.self.now.book c.args.client) c.order_of.ensures;
+  value = c.answer_code.ensures ∙ (c.carry_out.ensures.value ∙ ap (code_of c.args.self.now.book c.args.client) c.order_of.ensures);
 }
