@@ -1,13 +1,14 @@
 -- The account of the lines: how many, frames by kind, faults, lines that were no hexadecimal. Counts stay at their largest.
 use Rattle.std.specs.Prelude.{ℕ, ◌+◌, cond, Ok, Err, Result, nat_lt, slice_index, slice_set}
+use Rattle.wire.specs.Kinds.{byte_of}
 use Rattle.wire.specs.declared.faults.FrameFault.{FrameFault}
 use Rattle.inspect.specs.declared.account.Account.{Account}
 use Rattle.inspect.specs.declared.frame.Frame.{Frame}
 use Rattle.inspect.specs.declared.frame.Frame.TheVariants.{Statement, Requests}
 
--- the row in which a frame is counted: its kind, 9 for a batch, 0 for a fault
+-- the row in which a frame is counted: the byte of its kind, 9 for a batch, 0 for a fault
 abbrev pub row_of : Result Frame FrameFault → ℕ
-row_of (Ok (Statement s)) = s.statement.kind
+row_of (Ok (Statement s)) = byte_of s.statement.kind
 row_of (Ok (Requests b)) = 9
 row_of (Err f) = 0
 

@@ -4,13 +4,14 @@ ghost use Rattle.inspect.specs.Account.{raised, counted};
 
 use crate::frame::Frame;
 use wire::faults::FrameFault;
+use wire::kinds::BATCH;
 
 #[derive(Clone, Copy, Default)]
 pub struct Account {
     pub lines: u64,
     // lines that were no hexadecimal
     pub unread: u64,
-    // frames by kind; row 0 counts faults
+    // frames by the byte of their kind; row 0 counts faults
     pub rows: [u64; 10],
 }
 
@@ -34,8 +35,8 @@ impl Account {
         ensures { self.new ≡ counted self.old frame.now }
     {
         let row = match frame {
-            Ok(Frame::Statement(sealed)) => usize::from(sealed.statement.kind),
-            Ok(Frame::Requests(_)) => 9,
+            Ok(Frame::Statement(sealed)) => usize::from(u8::from(sealed.statement.kind)),
+            Ok(Frame::Requests(_)) => usize::from(BATCH),
             Err(_) => 0,
         };
         // by index: after a `get_mut` of an array in a field the proof knows nothing of the others (tried)

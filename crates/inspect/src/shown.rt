@@ -6,33 +6,8 @@ use digest::interface::Digest;
 use digest::truncated::Sha256;
 use std::fmt;
 use wire::faults::FrameFault;
+use wire::kinds::{BATCH, Kind};
 use wire::records::{Batch, Request, Sealed, Statement};
-
-fn kind_name(kind: Kind) -> &'static str {
-    match kind {
-        1 => "request",
-        2 => "proposal",
-        3 => "prepare",
-        4 => "commit",
-        5 => "checkpoint",
-        6 => "stable",
-        7 => "held",
-        8 => "new",
-        9 => "batch",
-        _ => "fault",
-    }
-}
-
-// What a frame's fault is about, by its byte place.
-fn place_name(place: usize) -> &'static str {
-    match place {
-        0 => "the length is not that of what follows",
-        2 => "no version 1",
-        3 => "no kind of a frame",
-        4 => "no count of 0 to 16",
-        _ => "the frame ends here, too early",
-    }
-}
 
 // The fields that the kind uses.
 #[derive(Clone, Copy)]
@@ -45,11 +20,14 @@ impl<'a> fmt::Display for Fields<'a> {
         let number = st.number;
         let value = st.digest.number();
         match st.kind {
-            1 => write!(f, "timestamp {number}, payload {value:016x}"),
-            2 | 3 | 4 => write!(f, "epoch {epoch}, number {number}, digest {value:016x}"),
-            5 => write!(f, "number {number}, mark {value:016x}"),
-            6 => write!(f, "target epoch {epoch}, stable number {number}"),
-            7 => {
+            Kind::Request => write!(f, "timestamp {number}, payload {value:016x}"),
+            Kind::Proposal | Kind::Prepare | Kind::Commit => write!(
+                f,
+                "epoch {epoch}, number {number}, digest {value:016x}"
+            ),
+            Kind::Checkpoint => write!(f, "number {number}, mark {value:016x}"),
+            Kind::Stable => write!(f, "target epoch {epoch}, stable number {number}"),
+            Kind::Held => {
                 let held = st.held;
                 write!(
                     f,
@@ -63,12 +41,16 @@ impl<'a> fmt::Display for Fields<'a> {
 
 pub(crate) fn show_statement(rt: &HostRuntime, line: u64, sealed: &Sealed) -> anyhow::Result<()> {
     let st = &sealed.statement;
-    let name = kind_name(st.kind);
-    let who = if st.kind == 1 { "client" } else { "controller" };
+    let kind = st.kind;
+    let who = if kind == Kind::Request {
+        "client"
+    } else {
+        "controller"
+    };
     let signer = st.signer;
     let fields = Fields(st);
     let seal = sealed.seal;
-    println!(rt; "{line}: {name} by {who} {signer}: {fields}, seal {seal:016x}")?;
+    println!(rt; "{line}: {kind} by {who} {signer}: {fields}, seal {seal:016x}")?;
     Ok(())
 }
 
@@ -104,13 +86,11 @@ pub(crate) fn show_batch(rt: &HostRuntime, line: u64, batch: &Batch) -> anyhow::
 }
 
 pub(crate) fn show_fault(rt: &HostRuntime, line: u64, fault: &FrameFault) -> anyhow::Result<()> {
-    let place = fault.place;
-    let what = place_name(place);
-    println!(rt; "{line}: no frame: fault at byte {place}: {what}")?;
+    println!(rt; "{line}: no frame: {fault}")?;
     Ok(())
 }
 
-fn show_row(rt: &HostRuntime, name: &str, count: u64) -> anyhow::Result<()> {
+fn show_row<T: fmt::Display>(rt: &HostRuntime, name: &T, count: u64) -> anyhow::Result<()> {
     if count > 0 {
         println!(rt; "  {name}: {count}")?;
     }
@@ -120,9 +100,10 @@ fn show_row(rt: &HostRuntime, name: &str, count: u64) -> anyhow::Result<()> {
 pub(crate) fn show_account(rt: &HostRuntime, account: &Account) -> anyhow::Result<()> {
     let lines = account.lines;
     println!(rt; "account of {lines} lines")?;
-    for kind in 1..10u8 {
-        show_row(rt, kind_name(kind), account.rows[usize::from(kind)])?;
+    for byte in 1..BATCH {
+        show_row(rt, &Kind::from(byte), account.rows[usize::from(byte)])?;
     }
-    show_row(rt, "no frame", account.rows[0])?;
-    show_row(rt, "not hexadecimal", account.unread)
+    show_row(rt, &"batch", account.rows[usize::from(BATCH)])?;
+    show_row(rt, &"no frame", account.rows[0])?;
+    show_row(rt, &"not hexadecimal", account.unread)
 }

@@ -3,3 +3,4 @@ pub mod Kinds
 pub mod Values
 pub mod Frames
 pub mod Laws
+pub mod Texts
