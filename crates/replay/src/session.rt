@@ -13,6 +13,7 @@ use protocol::records::Answer;
 use protocol::refusal::Refusal;
 use seal::roll::Roll;
 use std::alloc::Global;
+use wire::kinds::Kind;
 use wire::records::{DigestValue, Sealed, Statement};
 
 // A call asks for so many places and fills no more, so a larger outbox is lent as one of this size.
