@@ -35,6 +35,6 @@ impl From<AllocError> for HexFault {
     ghost from_gives = { λ _ r. r ≡ Memory };
 
     fn from(_: AllocError) -> HexFault {
-        HexFault::Memory
+        Self::Memory
     }
 }
