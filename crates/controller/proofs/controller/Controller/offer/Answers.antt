@@ -16,7 +16,7 @@ returns-in_err-batch-clause-agrees g c =
     c.in_err-batch.ensures (search rules)
 
 pub invariant_of-self-2 : goal.invariant_of-self-2
-invariant_of-self-2 g c = record { sound = subst Sound (sym c.accept_offer.ensures.core) (offer_sound c.args.self.now.core c.args.proposal.now c.in_ok-batch.batch c.args.self.now.sound) }
+invariant_of-self-2 g c = record { sound = subst Sound (sym c.accept_offer.ensures.core) (offer_sound c.args.self.now.core c.args.proposal.now _ c.args.self.now.sound) }
 
 pub returns-clause-agrees : goal.returns-clause-agrees
 returns-clause-agrees g c =

@@ -30,7 +30,7 @@ pub deliver_ready-progress-requires-clause-room : goal.deliver_ready-progress-re
 deliver_ready-progress-requires-clause-room g c =
     let ok = allowed tt _ _ c.in_ok-check_vote.ensures in
     let room = vote_room (g.C.SealChecker.accepts c.args.checker.now) c.args.self.now.core c.args.outbox.now c.args.vote.now ok.1 in
-    (vote_left c.args.self.now.core c.args.vote.now c.new-post.result c.accept_vote.new.post c.new-post.ensures.sent (subst (λ l. 400 ≤ length l) (sym c.new-post.ensures.outbox) room) c.accept_vote.ensures.out).1
+    omega (arith, (vote_left c.args.self.now.core c.args.vote.now c.new-post.result c.accept_vote.new.post c.new-post.ensures.sent (subst (λ l. 400 ≤ length l) (sym c.new-post.ensures.outbox) room) c.accept_vote.ensures.out).1)
 
 pub invariant_of-self : goal.invariant_of-self
 invariant_of-self g c =
