@@ -30,10 +30,8 @@ impl<D: Digest, A: Application> Members<D, A> {
         ensures call { Answered self.old.controllers.items self.new.controllers.items outbox.old outbox.new i (λ before answer after. Agrees (offered (C.accepts checker.now) (D.value before.digest) before.core before.app outbox.old proposal.now requests.now) answer after.core after.app outbox.new × (after.digest ≡ before.digest)) result }
         ensures only { Only self.old.controllers.items self.new.controllers.items i }
     {
-        match self.controllers.get_mut(i) {
-            Some(member) => Some(member.offer(checker, proposal, requests, outbox)),
-            None => None,
-        }
+        let member = self.controllers.get_mut(i)?;
+        Some(member.offer(checker, proposal, requests, outbox))
     }
 
     pub fn vote<C: SealChecker>(
@@ -46,10 +44,8 @@ impl<D: Digest, A: Application> Members<D, A> {
         ensures call { Answered self.old.controllers.items self.new.controllers.items outbox.old outbox.new i (λ before answer after. Agrees (voted A.next A.marked (C.accepts checker.now) before.core before.app outbox.old vote.now) answer after.core after.app outbox.new × (after.digest ≡ before.digest)) result }
         ensures only { Only self.old.controllers.items self.new.controllers.items i }
     {
-        match self.controllers.get_mut(i) {
-            Some(member) => Some(member.vote(checker, vote, outbox)),
-            None => None,
-        }
+        let member = self.controllers.get_mut(i)?;
+        Some(member.vote(checker, vote, outbox))
     }
 
     pub fn supply(
@@ -62,10 +58,8 @@ impl<D: Digest, A: Application> Members<D, A> {
         ensures call { Answered self.old.controllers.items self.new.controllers.items outbox.old outbox.new i (λ before answer after. Agrees (supplied A.next A.marked (D.value before.digest) before.core before.app outbox.old number requests.now) answer after.core after.app outbox.new × (after.digest ≡ before.digest)) result }
         ensures only { Only self.old.controllers.items self.new.controllers.items i }
     {
-        match self.controllers.get_mut(i) {
-            Some(member) => Some(member.supply(number, requests, outbox)),
-            None => None,
-        }
+        let member = self.controllers.get_mut(i)?;
+        Some(member.supply(number, requests, outbox))
     }
 
     pub fn prove<C: SealChecker>(
@@ -80,20 +74,16 @@ impl<D: Digest, A: Application> Members<D, A> {
         ensures call { Answered self.old.controllers.items self.new.controllers.items outbox.old outbox.new i (λ before answer after. Agrees (proved A.next A.marked (C.accepts checker.now) (D.value before.digest) before.core before.app outbox.old number requests.now commits.now) answer after.core after.app outbox.new × (after.digest ≡ before.digest)) result }
         ensures only { Only self.old.controllers.items self.new.controllers.items i }
     {
-        match self.controllers.get_mut(i) {
-            Some(member) => Some(member.prove(checker, number, requests, commits, outbox)),
-            None => None,
-        }
+        let member = self.controllers.get_mut(i)?;
+        Some(member.prove(checker, number, requests, commits, outbox))
     }
 
     pub fn give_up(&mut self, i: usize, outbox: &mut [Sealed]) -> Option<Result<Answer, Refusal>>
         ensures call { Answered self.old.controllers.items self.new.controllers.items outbox.old outbox.new i (λ before answer after. Agrees (gave_up before.core before.app outbox.old) answer after.core after.app outbox.new × (after.digest ≡ before.digest)) result }
         ensures only { Only self.old.controllers.items self.new.controllers.items i }
     {
-        match self.controllers.get_mut(i) {
-            Some(member) => Some(member.give_up(outbox)),
-            None => None,
-        }
+        let member = self.controllers.get_mut(i)?;
+        Some(member.give_up(outbox))
     }
 
     pub fn enter<C: SealChecker>(
@@ -107,19 +97,15 @@ impl<D: Digest, A: Application> Members<D, A> {
         ensures call { Answered self.old.controllers.items self.new.controllers.items outbox.old outbox.new i (λ before answer after. Agrees (entered (C.accepts checker.now) before.core before.app outbox.old new.now records.now) answer after.core after.app outbox.new × (after.digest ≡ before.digest)) result }
         ensures only { Only self.old.controllers.items self.new.controllers.items i }
     {
-        match self.controllers.get_mut(i) {
-            Some(member) => Some(member.enter(checker, new, records, outbox)),
-            None => None,
-        }
+        let member = self.controllers.get_mut(i)?;
+        Some(member.enter(checker, new, records, outbox))
     }
 
     pub fn turn(&mut self, i: usize, outbox: &mut [Sealed]) -> Option<Result<Answer, Refusal>>
         ensures call { Answered self.old.controllers.items self.new.controllers.items outbox.old outbox.new i (λ before answer after. Agrees (took_turn before.core before.app outbox.old) answer after.core after.app outbox.new × (after.digest ≡ before.digest)) result }
         ensures only { Only self.old.controllers.items self.new.controllers.items i }
     {
-        match self.controllers.get_mut(i) {
-            Some(member) => Some(member.turn(outbox)),
-            None => None,
-        }
+        let member = self.controllers.get_mut(i)?;
+        Some(member.turn(outbox))
     }
 }

@@ -24,9 +24,6 @@ impl<D: Digest, A: Application> Members<D, A> {
     pub fn member(&self, i: usize) -> Option<&Controller<D, A>>
         ensures { MatchOption result (vec_len self.now.controllers ≤ i) (λ k. (i < vec_len self.now.controllers) × IsAt self.now.controllers.items i k.now) }
     {
-        if i >= self.len() {
-            return None;
-        }
-        Some(&self.controllers[i])
+        self.controllers.get(i)
     }
 }
