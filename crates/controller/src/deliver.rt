@@ -24,7 +24,7 @@ fn ready_batch(core: &Core) -> Option<Batch>
     let digest = place.proposal?;
     if !place
         .commits
-        .backed(core.house.n(), core.house.quorum(), &digest)
+        .backed(core.house.threshold(), &digest)
     {
         return None;
     }

@@ -29,7 +29,7 @@ fn is_prepared(core: &Core, s: u64, digest: &DigestValue) -> bool
     core.table.place(s).is_some_and(|place| {
         place
             .prepares
-            .just_backed(core.house.n(), core.house.quorum(), digest)
+            .just_backed(core.house.threshold(), digest)
     })
 }
 
@@ -60,7 +60,7 @@ fn accept_checkpoint(core: &mut Core, vote: &Sealed)
     let st = vote.statement;
     core.table.checkpoint(st.number, st.signer, ballot_of(vote));
     let row = *core.table.row(st.number);
-    if row.just_backed(core.house.n(), core.house.quorum(), &st.digest) {
+    if row.just_backed(core.house.threshold(), &st.digest) {
         core.table.move_to(st.number, row.backers(&st.digest));
     }
 }

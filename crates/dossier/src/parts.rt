@@ -1,4 +1,7 @@
 // What a dossier is judged by, and what an accepted one says.
+ghost use Rattle.std.specs.Prelude.{◌≡◌};
+
+use quorum::house::Threshold;
 use wire::records::DigestValue;
 
 // The largest number there is; no dossier with a base above it is accepted.
@@ -10,6 +13,17 @@ pub struct Terms {
     pub n: u8,
     pub q: usize,
     pub epoch: u32,
+}
+
+impl Terms {
+    pub(crate) fn threshold(&self) -> Threshold
+        ensures { result ≡ record { n = self.now.n; q = self.now.q } }
+    {
+        Threshold {
+            n: self.n,
+            q: self.q,
+        }
+    }
 }
 
 // The highest held epoch of a number and its digest; epoch 0 where nobody holds one. No Option

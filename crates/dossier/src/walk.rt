@@ -41,7 +41,7 @@ impl<C: SealChecker> Target<'_, C> {
             number: s,
             digest: claim.digest,
         };
-        let next = group(records, helds.next, self.terms.n, self.terms.q, &rule)?;
+        let next = group(records, helds.next, self.terms.threshold(), &rule)?;
         Ok(Found { value: claim, next })
     }
 
@@ -94,7 +94,7 @@ impl<C: SealChecker> Target<'_, C> {
             number: base,
             digest: mark,
         };
-        let next = group(records, place, self.terms.n, self.terms.q, &rule)?;
+        let next = group(records, place, self.terms.threshold(), &rule)?;
         Ok(Found { value: mark, next })
     }
 
@@ -124,7 +124,7 @@ impl<C: SealChecker> Target<'_, C> {
         ensures exact { result ≡ walked (C.accepts self.now.checker.now) self.now.terms records.now }
         ensures judged { MatchResult result (Admitted (C.accepts self.now.checker.now) self.now.terms records.now) (λ i. i ≤ length records.now) }
     {
-        let place = group(records, 0, self.terms.n, self.terms.q, self)?;
+        let place = group(records, 0, self.terms.threshold(), self)?;
         self.after_stables(records, place)
     }
 }

@@ -5,6 +5,7 @@ ghost use Rattle.quorum.specs.Sets.{count, signed_by};
 
 use crate::rules::{AnyMark, Exact, Rule};
 use crate::signed::Signed;
+use quorum::house::Threshold;
 use seal::checker::SealChecker;
 use wire::kinds::Kind;
 use wire::records::Sealed;
@@ -22,32 +23,35 @@ fn tail<T>(list: &[T], from: usize) -> &[T]
 pub fn group<T: Signed, R: Rule<T>>(
     list: &[T],
     from: usize,
-    n: u8,
-    q: usize,
+    threshold: Threshold,
     rule: &R,
 ) -> Result<usize, usize>
-    ensures { result ≡ grouped T.names (R.allows rule.now) n q from 0 (drop from list.now) }
+    ensures { result ≡ grouped T.names (R.allows rule.now) threshold.n threshold.q from 0 (drop from list.now) }
 {
     let rest = tail(list, from);
     let mut least: u8 = 0;
-    for (i, x) in rest[..q.min(rest.len())].iter().enumerate() {
+    for (i, x) in rest[..threshold.q.min(rest.len())].iter().enumerate() {
         let s = x.signer();
-        if s < least || s >= n || !rule.allowed(x) {
+        if s < least || s >= threshold.n || !rule.allowed(x) {
             return Err(from + i);
         }
         least = s + 1;
     }
-    if rest.len() < q {
+    if rest.len() < threshold.q {
         return Err(from + rest.len());
     }
-    Ok(from + q)
+    Ok(from + threshold.q)
 }
 
 // The index of the first record at fault, missing or surplus in a list that is one group.
-pub fn first_fault<T: Signed, R: Rule<T>>(list: &[T], n: u8, q: usize, rule: &R) -> Option<usize>
-    ensures { result ≡ list_fault T.names (R.allows rule.now) n q list.now }
+pub fn first_fault<T: Signed, R: Rule<T>>(
+    list: &[T],
+    threshold: Threshold,
+    rule: &R,
+) -> Option<usize>
+    ensures { result ≡ list_fault T.names (R.allows rule.now) threshold.n threshold.q list.now }
 {
-    match group(list, 0, n, q, rule) {
+    match group(list, 0, threshold, rule) {
         Err(i) => Some(i),
         Ok(next) if next < list.len() => Some(next),
         Ok(_) => None,
@@ -55,23 +59,22 @@ pub fn first_fault<T: Signed, R: Rule<T>>(list: &[T], n: u8, q: usize, rule: &R)
 }
 
 // Whether the first q records of a list are a quorum: q different controllers.
-pub fn holds_quorum<T: Signed>(list: &[T], n: u8, q: usize) -> bool
-    ensures exact { result ≡ quorum_held T.names n q list.now }
-    ensures counted { result ≡ true → q ≤ count (signed_by T.names (take q list.now)) n }
+pub fn holds_quorum<T: Signed>(list: &[T], threshold: Threshold) -> bool
+    ensures exact { result ≡ quorum_held T.names threshold.n threshold.q list.now }
+    ensures counted { result ≡ true → threshold.q ≤ count (signed_by T.names (take threshold.q list.now)) threshold.n }
 {
-    group(list, 0, n, q, &AnyMark).is_ok()
+    group(list, 0, threshold, &AnyMark).is_ok()
 }
 
 // The index of the first record at fault, missing or surplus in a list of commits that proves a
 // number: one epoch from 1 up and one digest, which the first sets.
 pub fn commits_fault<C: SealChecker>(
     list: &[Sealed],
-    n: u8,
-    q: usize,
+    threshold: Threshold,
     number: u64,
     checker: &C,
 ) -> Option<usize>
-    ensures { result ≡ commits_fault (C.accepts checker.now) n q number list.now }
+    ensures { result ≡ commits_fault (C.accepts checker.now) threshold.n threshold.q number list.now }
 {
     let Some(
         Sealed {
@@ -92,5 +95,5 @@ pub fn commits_fault<C: SealChecker>(
         number,
         digest: first.digest,
     };
-    first_fault(list, n, q, &rule)
+    first_fault(list, threshold, &rule)
 }

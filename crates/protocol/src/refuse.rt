@@ -265,7 +265,7 @@ impl Core {
         if s.checked_sub(1) != Some(self.delivered) || s > LIMIT {
             return Err(Refusal::Number);
         }
-        if let Some(i) = commits_fault(commits, self.house.n(), self.house.quorum(), s, checker) {
+        if let Some(i) = commits_fault(commits, self.house.threshold(), s, checker) {
             return Err(Refusal::Record(i));
         }
         batch_of(digest, &first_digest(commits), requests)

@@ -17,6 +17,14 @@ pub struct House {
     ghost placed: { own < n },
 }
 
+// What a count of different signers is held against: how many controllers there are, and how many of
+// them are a quorum.
+#[derive(Clone, Copy, Debug, PartialEq, Eq)]
+pub struct Threshold {
+    pub n: u8,
+    pub q: usize,
+}
+
 // There is no house of this size, or it has no controller of this number.
 #[derive(Clone, Copy, Debug, PartialEq, Eq)]
 pub struct BadHouse {
@@ -81,5 +89,14 @@ impl House {
         ensures sizes { Sizes self.now.n }
     {
         2 * self.faults() + 1
+    }
+
+    pub fn threshold(&self) -> Threshold
+        ensures { result ≡ record { n = self.now.n; q = quorum self.now.n } }
+    {
+        Threshold {
+            n: self.n,
+            q: self.quorum(),
+        }
     }
 }

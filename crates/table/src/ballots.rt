@@ -6,6 +6,7 @@ use crate::records::{Ballot, Ballots, Vote, Votes};
 use group::check::{first_fault, holds_quorum};
 use group::rules::AnyMark;
 use group::signed::Signed;
+use quorum::house::Threshold;
 use wire::records::DigestValue;
 
 // What stands past the count.
@@ -110,16 +111,16 @@ impl Ballots {
     }
 
     // Whether a quorum voted for a digest.
-    pub fn backed(&self, n: u8, q: usize, digest: &DigestValue) -> bool
-        ensures { result ≡ backed n q digest.now self.now }
+    pub fn backed(&self, threshold: Threshold, digest: &DigestValue) -> bool
+        ensures { result ≡ backed threshold.n threshold.q digest.now self.now }
     {
-        holds_quorum(self.backers(digest).as_slice(), n, q)
+        holds_quorum(self.backers(digest).as_slice(), threshold)
     }
 
     // Whether just a quorum voted for a digest, so that the last vote made it one.
-    pub fn just_backed(&self, n: u8, q: usize, digest: &DigestValue) -> bool
-        ensures { result ≡ just_backed n q digest.now self.now }
+    pub fn just_backed(&self, threshold: Threshold, digest: &DigestValue) -> bool
+        ensures { result ≡ just_backed threshold.n threshold.q digest.now self.now }
     {
-        first_fault(self.backers(digest).as_slice(), n, q, &AnyMark).is_none()
+        first_fault(self.backers(digest).as_slice(), threshold, &AnyMark).is_none()
     }
 }
