@@ -278,7 +278,7 @@ impl Core {
         new: &Sealed,
         outbox: &[Sealed],
     ) -> Result<(), Refusal>
-        ensures { result ≡ ok_unless tt (new_refusal (C.accepts checker.now) self.now outbox.now new.now) }
+        ensures { MatchResult result (λ _. None ≡ new_refusal (C.accepts checker.now) self.now outbox.now new.now) (λ e. Some e ≡ new_refusal (C.accepts checker.now) self.now outbox.now new.now) }
     {
         let st = new.statement;
         check_room(outbox)?;
