@@ -7,7 +7,8 @@ ghost use Rattle.controller.specs.Sending.{Sent};
 use wire::kinds::Kind;
 use wire::records::{DigestValue, Sealed, Statement};
 
-// An outbox that is filled from its first place on.
+// An outbox that is filled from its first place on. It is lent by the host, and what a call does not fill
+// stays, so it is no `Vec`.
 #[derive(Drop)]
 pub(crate) struct Post<'a> {
     pub(crate) outbox: &'a mut [Sealed],

@@ -326,7 +326,8 @@ impl Core {
         ensures { result ≡ ok_unless (self.now.view.epoch + 1) (give_up_refusal self.now outbox.now) }
     {
         check_room(outbox)?;
-        self.view.next_epoch()
+        let target = self.view.next_epoch()?;
+        Ok(target)
     }
 
     // The epoch that begins.

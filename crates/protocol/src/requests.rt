@@ -77,8 +77,8 @@ impl Core {
             || !checker.genuine(&q.statement(), q.seal)
     }
 
-    // The index of the first bad request of a batch for a number. Judge and digest stay two
-    // parameters: the public checks take them so, and only this function and the one above take both.
+    // The index of the first bad request of a batch for a number. Checker and digest stay two
+    // parameters: a call is handed the one and keeps the other, and a struct of both would be made only here.
     pub(crate) fn first_bad<C: SealChecker, D: Digest>(
         &self,
         checker: &C,

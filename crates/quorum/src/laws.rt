@@ -4,31 +4,27 @@ ghost use Rattle.quorum.specs.Cases.{Cases};
 ghost use Rattle.quorum.specs.Laws.{QuorumsOverlap, QuorumsMeet, QuorumHonest, SignersCount};
 
 // The facts that every count rests on hold of each allowed size.
-pub fn sizes_hold() -> u8
+pub fn sizes_hold()
     ensures { SizesHold }
 {
-    0
 }
 
 // The worked sizes.
-pub fn cases_hold() -> u8
+pub fn cases_hold()
     ensures { Cases }
 {
-    0
 }
 
 // Two quorums share more than f controllers, so one that does not lie.
-pub fn quorums_meet() -> u8
+pub fn quorums_meet()
     ensures overlap { QuorumsOverlap }
     ensures meet { QuorumsMeet }
     ensures honest { QuorumHonest }
 {
-    0
 }
 
 // Ascending signers are as many controllers.
-pub fn signers_count() -> u8
+pub fn signers_count()
     ensures { SignersCount }
 {
-    0
 }

@@ -124,7 +124,6 @@ impl Table {
     pub fn enter(&mut self, chosen: &[Option<DigestValue>; 32])
         ensures { self.new ≡ enter_all self.old chosen.now }
     {
-        // no `iter_mut`: of a slice it does not say what the slice ends as
         for (i, digest) in chosen.iter().enumerate() {
             self.places[i].enter(*digest);
         }

@@ -2,11 +2,10 @@
 ghost use Rattle.tanks.specs.Cases.{FilledAndMoved};
 ghost use Rattle.tanks.specs.Laws.{MovesKeep, Unchanged, Within};
 
-pub fn laws_hold() -> u8
+pub fn laws_hold()
     ensures within { Within }
     ensures moves { MovesKeep }
     ensures unchanged { Unchanged }
     ensures worked { FilledAndMoved }
 {
-    0
 }

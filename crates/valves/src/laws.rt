@@ -2,11 +2,10 @@
 ghost use Rattle.valves.specs.Cases.{OpenedTwice};
 ghost use Rattle.valves.specs.Laws.{Unchanged, Whole, Within};
 
-pub fn laws_hold() -> u8
+pub fn laws_hold()
     ensures whole { Whole }
     ensures within { Within }
     ensures unchanged { Unchanged }
     ensures worked { OpenedTwice }
 {
-    0
 }

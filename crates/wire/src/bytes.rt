@@ -1,4 +1,5 @@
-// Numbers in bytes, big-endian.
+// Numbers in bytes, big-endian. By index: the frame's layout is a table of places, and a pattern of its 33
+// bytes is no plainer.
 ghost use Rattle.std.specs.Prelude.{◌≡◌, ◌+◌, ◌≤◌, length};
 ghost use Rattle.wire.specs.Bytes.{four_at, eight_at, put_over};
 

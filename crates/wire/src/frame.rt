@@ -1,4 +1,4 @@
-// A batch's frame in a buffer of its largest size.
+// A batch's frame in a buffer of its largest size, since a call allocates nothing.
 #[derive(Clone, Copy)]
 pub struct BatchFrame {
     pub length: usize,

@@ -35,7 +35,8 @@ pub struct Request {
     pub seal: u64,
 }
 
-// A batch of at most 16 requests; the places past its count hold zeros.
+// A batch of at most 16 requests; the places past its count hold zeros. A count beside places, and no `Vec`:
+// a call allocates nothing, and a batch is copied as a whole.
 #[derive(Clone, Copy)]
 pub struct Batch {
     pub count: u8,

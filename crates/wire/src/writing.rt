@@ -7,7 +7,7 @@ ghost use Rattle.wire.specs.Frames.{sealed_frame, write_sealed, request_bytes, b
 use crate::bytes::put;
 use crate::faults::WriteFault;
 use crate::frame::BatchFrame;
-use crate::kinds::Kind;
+use crate::kinds::{BATCH, Kind};
 use crate::records::{Request, Sealed};
 
 fn sealed_frame(s: &Sealed) -> [u8; 37]
@@ -62,8 +62,8 @@ fn batch_head(count: u8) -> [u8; 5]
     requires { count ≤ 16 }
     ensures { result ≡ batch_head count }
 {
-    let long = 3 + 21 * u16::from(count);
-    [(long / 256) as u8, (long % 256) as u8, 1, 9, count]
+    let [high, low] = (3 + 21 * u16::from(count)).to_be_bytes();
+    [high, low, 1, BATCH, count]
 }
 
 // The frame of a batch; more than 16 requests are refused.
