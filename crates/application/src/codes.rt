@@ -1,6 +1,7 @@
 // How an application answers an order: it carries it out, or says why not.
-ghost use Rattle.std.specs.Prelude.{◌≡◌};
+ghost use Rattle.std.specs.Prelude.{◌≡◌, Some};
 ghost use Rattle.application.specs.Codes.{answer_code, Decodes};
+ghost use Rattle.application.specs.Texts.{reject_text, no_reject_text};
 
 use std::error::Error;
 use std::fmt;
@@ -22,6 +23,8 @@ pub enum Reject {
 }
 
 impl fmt::Display for Reject {
+    ghost output = { λ reject. Some (reject_text reject) };
+
     fn fmt<W: fmt::Write>(&self, f: &mut fmt::Formatter<W>) -> fmt::Result {
         f.write_str(match self {
             Reject::Unknown => "no such order",
@@ -49,6 +52,8 @@ pub fn answer_code(answer: Result<(), Reject>) -> u8
 pub struct NoReject(pub u8);
 
 impl fmt::Display for NoReject {
+    ghost output = { λ code. Some (no_reject_text code) };
+
     fn fmt<W: fmt::Write>(&self, f: &mut fmt::Formatter<W>) -> fmt::Result {
         write!(f, "no reject has code {}", self.0)
     }

@@ -22,10 +22,7 @@ fn ready_batch(core: &Core) -> Option<Batch>
 {
     let place = core.table.place(core.delivered + 1)?;
     let digest = place.proposal?;
-    if !place
-        .commits
-        .backed(core.house.threshold(), &digest)
-    {
+    if !place.commits.backed(core.house.threshold(), &digest) {
         return None;
     }
     place.batch

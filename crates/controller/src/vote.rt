@@ -27,9 +27,7 @@ fn is_prepared(core: &Core, s: u64, digest: &DigestValue) -> bool
     ensures { result ≡ just_backed (size core.now) (enough core.now) digest.now (place_at core.now.table s).prepares }
 {
     core.table.place(s).is_some_and(|place| {
-        place
-            .prepares
-            .just_backed(core.house.threshold(), digest)
+        place.prepares.just_backed(core.house.threshold(), digest)
     })
 }
 

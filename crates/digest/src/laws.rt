@@ -3,22 +3,18 @@ ghost use Rattle.digest.specs.Laws.{FnvExamples, OneBlock, TwoBlocks, FewestZero
 
 pub fn fnv_examples_hold()
     ensures { FnvExamples }
-{
-}
+{}
 
 pub fn sha256_examples_hold()
     ensures one_block { OneBlock }
     ensures two_blocks { TwoBlocks }
-{
-}
+{}
 
 pub fn padding_holds()
     ensures { FewestZeros }
-{
-}
+{}
 
 pub fn schedule_holds()
     ensures first_words { FirstWords }
     ensures recurrence { Recurrence }
-{
-}
+{}

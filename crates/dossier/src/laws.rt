@@ -5,8 +5,7 @@ ghost use Rattle.dossier.specs.Laws.{AllAccepted, DossierSound, RefusedWithin};
 // The worked dossier of 92 records, and faults with their index.
 pub fn cases_hold()
     ensures { Cases }
-{
-}
+{}
 
 // An accepted dossier is sound: the checker accepts each record, q signers spoke, and what is chosen
 // is the highest claim, which q prepares back. Of a refused one the index is at most its length.
@@ -14,5 +13,4 @@ pub fn dossiers_sound()
     ensures accepted { AllAccepted }
     ensures sound { DossierSound }
     ensures within { RefusedWithin }
-{
-}
+{}

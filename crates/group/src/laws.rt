@@ -15,5 +15,4 @@ pub fn groups_hold<T: Signed, R: Rule<T>>(rule: &R) -> u8
 // What a list of commits with no fault shows.
 pub fn commits_prove()
     ensures { CommitsProve }
-{
-}
+{}

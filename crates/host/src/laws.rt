@@ -7,17 +7,14 @@ ghost use Rattle.host.specs.Laws.{AssemblyAccepted};
 pub fn assembly_holds()
     ensures cases { Cases }
     ensures premises { Premises }
-{
-}
+{}
 
 // The dossier of q true partings is accepted, whatever the house, the checker and the epoch.
 pub fn assembly_accepted()
     ensures { AssemblyAccepted }
-{
-}
+{}
 
 // A keyring accepts what it sealed, and each statement under one seal only.
 pub fn keyring_holds()
     ensures { OneSeal }
-{
-}
+{}

@@ -9,17 +9,14 @@ use digest::interface::Digest;
 // For every digest and every application: a house keeps one log.
 pub fn one_log_holds<D: Digest, A: Application>(digest: &D, start: &A)
     ensures { OneLogHolds (D.Digest.value digest.now) A.Application.next A.Application.marked start.now }
-{
-}
+{}
 
 // The premises of one log hold of a run that delivers: they are not empty.
 pub fn premises_hold()
     ensures { PremisesHold }
-{
-}
+{}
 
 // Choosing the most frequent claim, or counting one less than a quorum, loses what was committed.
 pub fn blunders_show()
     ensures { BlundersShow }
-{
-}
+{}

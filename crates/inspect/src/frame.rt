@@ -3,6 +3,7 @@ ghost use Rattle.std.specs.Prelude.{◌≡◌};
 ghost use Rattle.inspect.specs.Frame.{frame_in};
 
 use wire::faults::FrameFault;
+use wire::kinds::BATCH;
 use wire::reading::{read_batch, read_sealed};
 use wire::records::{Batch, Sealed};
 
@@ -17,7 +18,7 @@ pub(crate) fn frame_in(bytes: &[u8]) -> Result<Frame, FrameFault>
     ensures { result ≡ frame_in bytes.now }
 {
     match bytes {
-        [_, _, _, 9, ..] => read_batch(bytes).map(Frame::Requests),
+        [_, _, _, BATCH, ..] => read_batch(bytes).map(Frame::Requests),
         _ => read_sealed(bytes).map(Frame::Statement),
     }
 }

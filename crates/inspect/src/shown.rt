@@ -100,6 +100,7 @@ fn show_row<T: fmt::Display>(rt: &HostRuntime, name: &T, count: u64) -> anyhow::
 pub(crate) fn show_account(rt: &HostRuntime, account: &Account) -> anyhow::Result<()> {
     let lines = account.lines;
     println!(rt; "account of {lines} lines")?;
+    // by byte: each kind is asked for by its own
     for byte in 1..BATCH {
         show_row(rt, &Kind::from(byte), account.rows[usize::from(byte)])?;
     }

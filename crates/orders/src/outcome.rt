@@ -27,6 +27,7 @@ impl fmt::Display for Passed {
     }
 }
 
+// No `Result`: to be passed over is no error.
 #[derive(Clone, Copy, Debug, PartialEq, Eq)]
 pub enum Outcome {
     Answered(u8),

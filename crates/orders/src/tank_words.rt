@@ -55,6 +55,7 @@ impl Worded for Tanks {
 
     // A tank is shown that holds something or is not set to 20 degrees.
     fn show(&self, rt: &HostRuntime) -> anyhow::Result<()> {
+        // by number: the tanks give themselves out one by one
         for number in 0..64u8 {
             let changed = self
                 .tank(number)

@@ -42,6 +42,7 @@ impl Worded for Valves {
 
     // An account is shown that does not hold the 10,000 units that it began with.
     fn show(&self, rt: &HostRuntime) -> anyhow::Result<()> {
+        // by number: the accounts give themselves out one by one
         for client in 0..32u8 {
             if let Some(units) = self.account(client).filter(|units| *units != 10_000) {
                 println!(rt; "client {client}: {units} units")?;

@@ -28,7 +28,8 @@ pub struct Core {
 }
 
 // What an accepted call answers: how many statements it put into the outbox, issued and forwarded, the
-// first number that it delivered (0 if none), and how many batches and requests.
+// first number that it delivered, 0 if none (no `Option`: numbers begin at 1, and hosts take the 0 as
+// it is), and how many batches and requests.
 #[derive(Clone, Copy, Default)]
 pub struct Answer {
     pub issued: usize,

@@ -5,11 +5,9 @@ ghost use Rattle.seal.specs.Roll.{Membership};
 // Digests and statements that the tests call the same are equal, and the other way round.
 pub fn same_holds()
     ensures { Same }
-{
-}
+{}
 
 // A roll accepts exactly what stands in its list.
 pub fn roll_holds()
     ensures { Membership }
-{
-}
+{}

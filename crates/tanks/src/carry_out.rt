@@ -26,6 +26,7 @@ impl Farm {
         self.tank(tank).ok_or(Reject::BadPlace)
     }
 
+    // By index: after a `get_mut` of an array in a field nothing is known of its elements.
     fn set_point(&mut self, client: u8, tank: u8, to: i16) -> Result<(), Reject>
         ensures value { answer_code result ≡ code_of_set_point client tank to }
         ensures after { self.new ≡ if_done (answer_code result) (with_set_point self.old tank to) self.old }

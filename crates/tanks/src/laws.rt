@@ -7,5 +7,4 @@ pub fn laws_hold()
     ensures moves { MovesKeep }
     ensures unchanged { Unchanged }
     ensures worked { FilledAndMoved }
-{
-}
+{}

@@ -9,7 +9,8 @@ pub enum TankOrder {
     Move { from: u8, to: u8, litres: u32 },
 }
 
-// The order in a payload, if there is one.
+// The order in a payload, if there is one. One pattern for each, which is the format's table; no `TryFrom`, since
+// nothing more is said of a payload without an order.
 pub fn order_of(payload: u64) -> Option<TankOrder>
     ensures { result ≡ order_of payload }
 {

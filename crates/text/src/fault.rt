@@ -1,5 +1,6 @@
 // Why a text is no hexadecimal.
-ghost use Rattle.std.specs.Prelude.{◌≡◌};
+ghost use Rattle.std.specs.Prelude.{◌≡◌, Some};
+ghost use Rattle.text.specs.Texts.{fault_text};
 ghost use Rattle.text.specs.declared.fault.HexFault.TheVariants.{Memory};
 
 use std::alloc::AllocError;
@@ -17,6 +18,8 @@ pub enum HexFault {
 }
 
 impl fmt::Display for HexFault {
+    ghost output = { λ fault. Some (fault_text fault) };
+
     fn fmt<W: fmt::Write>(&self, f: &mut fmt::Formatter<W>) -> fmt::Result {
         match self {
             HexFault::Digit(place) => write!(

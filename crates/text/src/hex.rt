@@ -5,6 +5,7 @@ ghost use Rattle.text.specs.Hex.{is_digit, digit_value, first_bad, hex, Decodes}
 use crate::fault::HexFault;
 use std::alloc::Global;
 
+// Apart from the value: a bad digit is told before anything is decoded.
 fn is_digit(c: u8) -> bool
     ensures { result ≡ is_digit c }
 {

@@ -7,5 +7,4 @@ pub fn laws_hold()
     ensures within { Within }
     ensures unchanged { Unchanged }
     ensures worked { OpenedTwice }
-{
-}
+{}

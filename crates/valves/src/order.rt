@@ -10,7 +10,8 @@ pub enum ValveOrder {
     Pay { to: u8, units: u32 },
 }
 
-// The order in a payload, if there is one.
+// The order in a payload, if there is one. One pattern for each, which is the format's table; no `TryFrom`, since
+// nothing more is said of a payload without an order.
 pub fn order_of(payload: u64) -> Option<ValveOrder>
     ensures { result ≡ order_of payload }
 {

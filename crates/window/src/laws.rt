@@ -9,8 +9,7 @@ use application::interface::Application;
 pub fn cases_hold()
     ensures window { WindowCase }
     ensures delivery { DeliveryCase }
-{
-}
+{}
 
 // Of one window: a mark adds its timestamp to those seen, and what is seen is what was ever marked.
 pub fn windows_hold()
@@ -18,8 +17,7 @@ pub fn windows_hold()
     ensures unseen { FreeUnseen }
     ensures unchanged { ElseUnchanged }
     ensures history { SeenMarked }
-{
-}
+{}
 
 // Of the requests that are applied: none twice, each of those given, and each in range.
 pub fn served_hold()
@@ -31,12 +29,10 @@ pub fn served_hold()
     ensures grows { SeenGrows }
     ensures seen { SeenServed }
     ensures joins { ServedJoins }
-{
-}
+{}
 
 // Of deliveries to any application: the served requests make the state, and batches may be joined.
 pub fn deliveries_hold<P: Application>(_app: &P)
     ensures delivers { Delivers P.next }
     ensures joins { DeliveryJoins P.next }
-{
-}
+{}
