@@ -1,11 +1,12 @@
 // How many calls there were, and what became of them. Counts stay at their largest.
 ghost use Rattle.std.specs.Prelude.{◌≡◌};
-ghost use Rattle.replay.specs.Account.{counted, more};
+ghost use Rattle.replay.specs.Account.{counted};
 
 use protocol::records::Answer;
 use protocol::refusal::Refusal;
+use std::fmt;
 
-#[derive(Clone, Copy)]
+#[derive(Clone, Copy, Default)]
 pub struct Account {
     pub calls: u64,
     pub accepted: u64,
@@ -15,38 +16,36 @@ pub struct Account {
     pub passed: u64,
 }
 
-fn raise(count: &mut u64, by: usize)
-    ensures { count.new ≡ more count.old by }
-{
-    *count = count.saturating_add(by as u64);
-}
-
 impl Account {
-    pub(crate) fn new() -> Account
-        ensures { result ≡ record { calls = 0; accepted = 0; refused = 0; batches = 0; applied = 0; passed = 0 } }
-    {
-        Account {
-            calls: 0,
-            accepted: 0,
-            refused: 0,
-            batches: 0,
-            applied: 0,
-            passed: 0,
-        }
-    }
-
     pub(crate) fn count(&mut self, res: &Result<Answer, Refusal>)
         ensures { self.new ≡ counted self.old res.now }
     {
-        raise(&mut self.calls, 1);
-        match *res {
+        self.calls = self.calls.saturating_add(1);
+        match res {
             Ok(answer) => {
-                raise(&mut self.accepted, 1);
-                raise(&mut self.batches, answer.batches);
-                raise(&mut self.applied, answer.applied);
-                raise(&mut self.passed, answer.passed);
+                self.accepted = self.accepted.saturating_add(1);
+                self.batches = self.batches.saturating_add(answer.batches as u64);
+                self.applied = self.applied.saturating_add(answer.applied as u64);
+                self.passed = self.passed.saturating_add(answer.passed as u64);
             }
-            Err(_) => raise(&mut self.refused, 1),
+            Err(_) => self.refused = self.refused.saturating_add(1),
         }
+    }
+}
+
+impl fmt::Display for Account {
+    fn fmt<W: fmt::Write>(&self, f: &mut fmt::Formatter<W>) -> fmt::Result {
+        let Account {
+            calls,
+            accepted,
+            refused,
+            batches,
+            applied,
+            passed,
+        } = self;
+        write!(
+            f,
+            "account calls={calls} accepted={accepted} refused={refused} batches={batches} applied={applied} passed={passed}"
+        )
     }
 }

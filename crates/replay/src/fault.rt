@@ -1,13 +1,18 @@
 // Why a line is not carried out.
 ghost use Rattle.std.specs.Prelude.{◌≡◌};
-ghost use Rattle.replay.specs.declared.fault.LineFault.TheVariants.{Frame, Word};
+ghost use Rattle.protocol.specs.declared.refusal.Refusal.TheVariants.{Frame};
+ghost use Rattle.replay.specs.declared.fault.LineFault.TheVariants.{Refused, Bad};
 
-use std::alloc::{AllocError, AllocFailed};
+use house::opening::OpenFault;
+use protocol::refusal::Refusal;
+use std::alloc::AllocError;
+use std::error::Error;
+use std::fmt;
 use text::fault::HexFault;
 use wire::faults::FrameFault;
 
 // What is wrong with a line that has none of the known forms.
-#[derive(Clone, Copy)]
+#[derive(Clone, Copy, Debug, PartialEq, Eq)]
 pub enum Wrong {
     NoText,
     NoOrder,
@@ -23,9 +28,9 @@ pub enum Wrong {
     Memory,
 }
 
-impl Wrong {
-    pub(crate) fn text(self) -> &'static str {
-        match self {
+impl fmt::Display for Wrong {
+    fn fmt<W: fmt::Write>(&self, f: &mut fmt::Formatter<W>) -> fmt::Result {
+        f.write_str(match self {
             Wrong::NoText => "not UTF-8 text",
             Wrong::NoOrder => "no such order",
             Wrong::Words => "words are missing or left over",
@@ -38,50 +43,74 @@ impl Wrong {
             Wrong::Hex => "a frame is not lowercase hexadecimal",
             Wrong::Outside => "the number has no place in the table",
             Wrong::Memory => "no memory for it",
+        })
+    }
+}
+
+impl Error for Wrong {}
+
+#[derive(Clone, Copy, Debug, PartialEq, Eq)]
+pub enum LineFault {
+    // a house or a call is refused, or a word is hexadecimal and not the frame that is asked for
+    Refused(Refusal),
+    Bad(Wrong),
+}
+
+impl fmt::Display for LineFault {
+    fn fmt<W: fmt::Write>(&self, f: &mut fmt::Formatter<W>) -> fmt::Result {
+        match self {
+            LineFault::Refused(refusal) => write!(f, "refused {refusal}"),
+            LineFault::Bad(wrong) => write!(f, "bad line: {wrong}"),
         }
     }
 }
 
-#[derive(Clone, Copy)]
-pub enum LineFault {
-    // a word that is hexadecimal, and not the frame that is asked for
-    Frame(FrameFault),
-    Word(Wrong),
+impl Error for LineFault {}
+
+impl From<Refusal> for LineFault {
+    ghost from_gives = { λ e r. r ≡ Refused e };
+
+    fn from(refusal: Refusal) -> LineFault {
+        LineFault::Refused(refusal)
+    }
 }
 
 impl From<FrameFault> for LineFault {
-    ghost from_gives = { λ f r. r ≡ Frame f };
+    ghost from_gives = { λ f r. r ≡ Refused (Frame f) };
 
     fn from(fault: FrameFault) -> LineFault {
-        LineFault::Frame(fault)
+        LineFault::Refused(Refusal::Frame(fault))
     }
 }
 
 impl From<Wrong> for LineFault {
-    ghost from_gives = { λ w r. r ≡ Word w };
+    ghost from_gives = { λ w r. r ≡ Bad w };
 
     fn from(wrong: Wrong) -> LineFault {
-        LineFault::Word(wrong)
+        LineFault::Bad(wrong)
     }
 }
 
 impl From<HexFault> for LineFault {
     fn from(fault: HexFault) -> LineFault {
+        LineFault::Bad(match fault {
+            HexFault::Memory => Wrong::Memory,
+            HexFault::Digit(_) | HexFault::Odd(_) => Wrong::Hex,
+        })
+    }
+}
+
+impl From<OpenFault> for LineFault {
+    fn from(fault: OpenFault) -> LineFault {
         match fault {
-            HexFault::Memory => LineFault::Word(Wrong::Memory),
-            _ => LineFault::Word(Wrong::Hex),
+            OpenFault::Refused(refusal) => LineFault::Refused(refusal),
+            OpenFault::Memory => LineFault::Bad(Wrong::Memory),
         }
     }
 }
 
 impl From<AllocError> for LineFault {
-    fn from(_e: AllocError) -> LineFault {
-        LineFault::Word(Wrong::Memory)
-    }
-}
-
-impl<T: Drop> From<AllocFailed<T>> for LineFault {
-    fn from(_e: AllocFailed<T>) -> LineFault {
-        LineFault::Word(Wrong::Memory)
+    fn from(_: AllocError) -> LineFault {
+        LineFault::Bad(Wrong::Memory)
     }
 }

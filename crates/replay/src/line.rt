@@ -1,30 +1,14 @@
 // What a line asks for.
+use crate::choices::{AnyApplication, AnyDigest};
 use wire::records::{Batch, Sealed};
 
 #[derive(Clone, Copy)]
-pub enum ApplicationName {
-    Tanks,
-    Valves,
-}
-
-#[derive(Clone, Copy)]
-pub enum DigestName {
-    Fnv,
-    Sha256,
-}
-
-#[derive(Clone, Copy)]
 pub struct Opening {
-    pub n: u64,
-    pub application: ApplicationName,
-    pub digest: DigestName,
-}
-
-impl Opening {
-    // How many controllers; 255 for all above, since no house has so many.
-    pub(crate) fn size(&self) -> u8 {
-        self.n.min(255) as u8
-    }
+    // how many controllers; 255 for all above, since no house has so many
+    pub n: u8,
+    // at its start
+    pub application: AnyApplication,
+    pub digest: AnyDigest,
 }
 
 #[derive(Drop)]
@@ -38,14 +22,19 @@ pub enum Call {
     Turn,
 }
 
-// Controllers stand by their numbers, which are those of controllers of the house.
+// What the house that is open is asked. Controllers stand by their numbers, which are those of controllers of the house.
 #[derive(Drop)]
-pub enum Line {
-    House(Opening),
+pub enum Asked {
     Genuine(Sealed),
     Call(usize, Call),
     Outbox(usize, u64),
     Show(usize),
     Window(usize, u8),
     Batch(usize, u64),
+}
+
+#[derive(Drop)]
+pub enum Line {
+    House(Opening),
+    Asked(Asked),
 }

@@ -3,14 +3,13 @@
 #![tactic(auto)]
 
 mod account;
+mod choices;
 mod fault;
 mod frames;
 mod line;
-mod numbers;
 mod play;
 mod session;
 mod shown;
-mod stage;
 mod votes;
 mod words;
 

@@ -1,16 +1,20 @@
 // A recorded run, line by line.
+ghost use Rattle.std.specs.Prelude.{◌≡◌, IsNone};
+
 use crate::account::Account;
-use crate::fault::{LineFault, Wrong};
+use crate::fault::LineFault;
 use crate::line::{Line, Opening};
-use crate::shown::{show_account, show_bad, show_house, show_refusal};
-use crate::stage::Stage;
+use crate::session::Session;
+use crate::shown::{HouseLine, show};
 use crate::words::line_in;
-use house::opening::OpenFault;
 use protocol::refusal::Refusal;
+use quorum::house::House;
+use std::alloc::Global;
 
 #[derive(Drop)]
 pub struct Play {
-    stage: Stage,
+    // the house that is open, if one is
+    session: Option<Session>,
     account: Account,
 }
 
@@ -23,23 +27,22 @@ fn without_return(line: &[u8]) -> &[u8] {
 }
 
 impl Play {
-    pub(crate) fn new() -> Play {
+    // No house is open, and nothing is counted.
+    pub(crate) fn new() -> Play
+        ensures session { IsNone result.session }
+        ensures account { result.account ≡ record { calls = 0; accepted = 0; refused = 0; batches = 0; applied = 0; passed = 0 } }
+    {
         Play {
-            stage: Stage::Empty,
-            account: Account::new(),
+            session: None,
+            account: Account::default(),
         }
     }
 
     // Opens a house in the place of the one that was open, or leaves that as it is.
-    fn open(&mut self, rt: &HostRuntime, opening: &Opening) -> anyhow::Result<()> {
-        match Stage::open(rt.alloc(), opening) {
-            Ok(stage) => {
-                self.stage = stage;
-                show_house(rt, opening.size())
-            }
-            Err(OpenFault::Refused(refusal)) => show_refusal(rt, refusal),
-            Err(OpenFault::Memory) => show_bad(rt, Wrong::Memory),
-        }
+    fn open(&mut self, heap: Global, opening: &Opening) -> Result<HouseLine, LineFault> {
+        let house = House::new(opening.n, 0).map_err(|_| Refusal::House)?;
+        self.session = Some(Session::open(heap, opening)?);
+        Ok(HouseLine(house))
     }
 
     pub(crate) fn take(&mut self, rt: &HostRuntime, line: &[u8]) -> anyhow::Result<()> {
@@ -47,16 +50,26 @@ impl Play {
         if let [] | [b'#', ..] = text {
             return Ok(());
         }
-        match line_in(rt.alloc(), self.stage.len(), text) {
-            Ok(Line::House(opening)) => self.open(rt, &opening),
-            Ok(line) => self.stage.take(rt, &mut self.account, line),
-            Err(LineFault::Frame(fault)) => show_refusal(rt, Refusal::Frame(fault)),
-            Err(LineFault::Word(wrong)) => show_bad(rt, wrong),
+        let members = self.session.as_ref().map(Session::len);
+        match line_in(rt.alloc(), members, text) {
+            Ok(Line::House(opening)) => show(rt, self.open(rt.alloc(), &opening)),
+            Ok(Line::Asked(asked)) => match &mut self.session {
+                Some(session) => session.take(rt, &mut self.account, asked),
+                // where no house is open, no line asks one anything
+                None => Ok(()),
+            },
+            Err(fault) => {
+                println!(rt; "{fault}")?;
+                Ok(())
+            }
         }
     }
 
     pub(crate) fn finish(&self, rt: &HostRuntime) -> anyhow::Result<()> {
-        show_account(rt, &self.account)?;
-        self.stage.show_all(rt)
+        println!(rt; "\n{}", self.account)?;
+        match &self.session {
+            Some(session) => session.show_all(rt),
+            None => Ok(()),
+        }
     }
 }

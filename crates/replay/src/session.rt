@@ -1,12 +1,10 @@
 // A house that is open: its controllers, the places of the outbox that each is lent, and the roll.
 use crate::account::Account;
-use crate::fault::Wrong;
-use crate::line::{Call, Line};
-use crate::shown::{
-    show_bad, show_controller, show_outbox, show_place, show_result, show_roll, show_window,
-};
-use application::interface::Application;
-use digest::interface::Digest;
+use crate::choices::{AnyApplication, AnyDigest};
+use crate::fault::{LineFault, Wrong};
+use crate::line::{Asked, Call, Opening};
+use crate::shown::{ControllerLine, PlaceLine, Reply, WindowLine, show};
+use controller::controller::Controller;
 use house::members::Members;
 use house::opening::OpenFault;
 use protocol::records::Answer;
@@ -32,136 +30,122 @@ const BLANK: Sealed = Sealed {
 };
 
 #[derive(Drop)]
-pub struct Session<D: Digest, A: Application> {
-    members: Members<D, A>,
+pub struct Session {
+    members: Members<AnyDigest, AnyApplication>,
     // for each controller
     places: [usize; 16],
     roll: Roll,
 }
 
-fn make_call<D: Digest, A: Application>(
-    members: &mut Members<D, A>,
-    i: usize,
-    roll: &Roll,
-    call: &Call,
-    outbox: &mut [Sealed],
-) -> Option<Result<Answer, Refusal>> {
-    match call {
-        Call::Offer(proposal, batch) => {
-            members.offer(i, roll, proposal, batch.as_slice(), outbox)
-        }
-        Call::Vote(vote) => members.vote(i, roll, vote, outbox),
-        Call::Supply(number, batch) => members.supply(i, *number, batch.as_slice(), outbox),
-        Call::Prove(number, batch, commits) => {
-            let commits = commits.as_slice();
-            members.prove(i, roll, *number, batch.as_slice(), commits, outbox)
-        }
-        Call::GiveUp => members.give_up(i, outbox),
-        Call::Enter(new, records) => members.enter(i, roll, new, records.as_slice(), outbox),
-        Call::Turn => members.turn(i, outbox),
-    }
-}
-
-impl<D: Digest + Copy, A: Application + Copy> Session<D, A> {
-    // A house of n new controllers and an empty roll.
-    pub(crate) fn open(
-        heap: Global,
-        n: u8,
-        digest: D,
-        start: A,
-    ) -> Result<Session<D, A>, OpenFault> {
-        match Members::open(heap, n, digest, start) {
-            Ok(members) => Ok(Session {
-                members,
-                places: [ENOUGH_PLACES; 16],
-                roll: Roll::new(heap),
-            }),
-            Err(fault) => Err(fault),
-        }
+impl Session {
+    // A house of new controllers and an empty roll.
+    pub(crate) fn open(heap: Global, opening: &Opening) -> Result<Session, OpenFault> {
+        Ok(Session {
+            members: Members::open(heap, opening.n, opening.digest, opening.application)?,
+            places: [ENOUGH_PLACES; 16],
+            roll: Roll::new(heap),
+        })
     }
 
     pub(crate) fn len(&self) -> usize {
         self.members.len()
     }
 
-    fn call(
+    fn make_call(
         &mut self,
-        rt: &HostRuntime,
+        i: usize,
+        call: &Call,
+        outbox: &mut [Sealed],
+    ) -> Option<Result<Answer, Refusal>> {
+        let Session { members, roll, .. } = self;
+        match call {
+            Call::Offer(proposal, batch) => {
+                members.offer(i, roll, proposal, batch.as_slice(), outbox)
+            }
+            Call::Vote(vote) => members.vote(i, roll, vote, outbox),
+            Call::Supply(number, batch) => members.supply(i, *number, batch.as_slice(), outbox),
+            Call::Prove(number, batch, commits) => {
+                let commits = commits.as_slice();
+                members.prove(i, roll, *number, batch.as_slice(), commits, outbox)
+            }
+            Call::GiveUp => members.give_up(i, outbox),
+            Call::Enter(new, records) => members.enter(i, roll, new, records.as_slice(), outbox),
+            Call::Turn => members.turn(i, outbox),
+        }
+    }
+
+    fn call<'a>(
+        &mut self,
         account: &mut Account,
         i: usize,
         call: &Call,
-    ) -> anyhow::Result<()> {
-        let places = self.places.get(i).copied().unwrap_or(0);
-        let mut outbox = vec![in rt.alloc(); BLANK; places]?;
-        match make_call(
-            &mut self.members,
-            i,
-            &self.roll,
-            call,
-            outbox.as_mut_slice(),
-        ) {
-            Some(result) => {
-                account.count(&result);
-                show_result(rt, &result, outbox.as_slice())
-            }
-            None => show_bad(rt, Wrong::Controller),
-        }
+        outbox: &'a mut [Sealed],
+    ) -> Result<Reply<'a>, LineFault> {
+        let result = self.make_call(i, call, outbox).ok_or(Wrong::Controller)?;
+        account.count(&result);
+        let answer = result?;
+        let sent = answer
+            .issued
+            .saturating_add(answer.forwarded)
+            .min(outbox.len());
+        Ok(Reply {
+            answer,
+            sent: &outbox[..sent],
+        })
     }
 
-    fn add_genuine(&mut self, rt: &HostRuntime, sealed: Sealed) -> anyhow::Result<()> {
-        self.roll.add(sealed)?;
-        show_roll(rt, self.roll.len())
+    fn member(&self, i: usize) -> Result<&Controller<AnyDigest, AnyApplication>, Wrong> {
+        self.members.member(i).ok_or(Wrong::Controller)
     }
 
-    fn set_places(&mut self, rt: &HostRuntime, i: usize, places: u64) -> anyhow::Result<()> {
-        if let Some(lent) = self.places.get_mut(i) {
-            *lent = places.min(ENOUGH_PLACES as u64) as usize;
-        }
-        show_outbox(rt, i, places)
+    fn controller(&self, i: usize) -> Result<ControllerLine<'_>, LineFault> {
+        let member = self.member(i)?;
+        Ok(ControllerLine { i, member })
     }
 
-    fn show(&self, rt: &HostRuntime, i: usize) -> anyhow::Result<()> {
-        match self.members.member(i) {
-            Some(member) => show_controller(rt, i, member),
-            None => show_bad(rt, Wrong::Controller),
-        }
+    fn window(&self, i: usize, client: u8) -> Result<WindowLine, LineFault> {
+        let window = self.member(i)?.window(client).ok_or(Wrong::Client)?;
+        Ok(WindowLine { i, client, window })
     }
 
-    fn show_window(&self, rt: &HostRuntime, i: usize, client: u8) -> anyhow::Result<()> {
-        match self.members.member(i) {
-            Some(member) => show_window(rt, i, client, member.window(client)),
-            None => show_bad(rt, Wrong::Controller),
-        }
+    fn place(&self, i: usize, number: u64) -> Result<PlaceLine<'_>, LineFault> {
+        let place = self.member(i)?.place(number).ok_or(Wrong::Outside)?;
+        Ok(PlaceLine { i, number, place })
     }
 
-    fn show_place(&self, rt: &HostRuntime, i: usize, number: u64) -> anyhow::Result<()> {
-        match self.members.member(i) {
-            Some(member) => show_place(rt, i, number, member.place(number)),
-            None => show_bad(rt, Wrong::Controller),
-        }
-    }
-
-    // Carries out a line that opens no house.
     pub(crate) fn take(
         &mut self,
         rt: &HostRuntime,
         account: &mut Account,
-        line: Line,
+        asked: Asked,
     ) -> anyhow::Result<()> {
-        match line {
-            Line::House(_) => Ok(()),
-            Line::Genuine(sealed) => self.add_genuine(rt, sealed),
-            Line::Call(i, call) => self.call(rt, account, i, &call),
-            Line::Outbox(i, places) => self.set_places(rt, i, places),
-            Line::Show(i) => self.show(rt, i),
-            Line::Window(i, client) => self.show_window(rt, i, client),
-            Line::Batch(i, number) => self.show_place(rt, i, number),
+        match asked {
+            Asked::Genuine(sealed) => {
+                self.roll.add(sealed)?;
+                println!(rt; "roll {}", self.roll.len())?;
+            }
+            Asked::Call(i, call) => {
+                let places = self.places.get(i).copied().unwrap_or(0);
+                let mut outbox = vec![in rt.alloc(); BLANK; places]?;
+                show(rt, self.call(account, i, &call, outbox.as_mut_slice()))?;
+            }
+            Asked::Outbox(i, places) => {
+                if let Some(lent) = self.places.get_mut(i) {
+                    *lent = places.min(ENOUGH_PLACES as u64) as usize;
+                }
+                println!(rt; "outbox {i} {places}")?;
+            }
+            Asked::Show(i) => show(rt, self.controller(i))?,
+            Asked::Window(i, client) => show(rt, self.window(i, client))?,
+            Asked::Batch(i, number) => show(rt, self.place(i, number))?,
         }
+        Ok(())
     }
 
     pub(crate) fn show_all(&self, rt: &HostRuntime) -> anyhow::Result<()> {
-        for i in 0..self.members.len() {
-            self.show(rt, i)?;
+        // a house lends its controllers by their numbers alone
+        for i in 0..self.len() {
+            show(rt, self.controller(i))?;
         }
         Ok(())
     }

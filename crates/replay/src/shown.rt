@@ -1,12 +1,9 @@
 // What is printed.
-use crate::account::Account;
-use crate::fault::Wrong;
+use crate::choices::{AnyApplication, AnyDigest};
+use crate::fault::LineFault;
 use crate::votes::voters;
-use application::interface::Application;
 use controller::controller::Controller;
-use digest::interface::Digest;
 use protocol::records::Answer;
-use protocol::refusal::Refusal;
 use quorum::house::House;
 use std::fmt;
 use table::records::{Certificate, Place};
@@ -29,192 +26,160 @@ impl fmt::Display for Hex<'_> {
 
 // A part that may be missing.
 #[derive(Clone, Copy)]
-enum Part {
-    Missing,
-    Number(u64),
-    Digest(u64),
-    Certificate(u32, u64),
-}
+struct Part<T>(Option<T>);
 
-impl fmt::Display for Part {
+impl<T: fmt::Display> fmt::Display for Part<T> {
     fn fmt<W: fmt::Write>(&self, f: &mut fmt::Formatter<W>) -> fmt::Result {
-        match *self {
-            Part::Missing => write!(f, "none"),
-            Part::Number(n) => write!(f, "{n}"),
-            Part::Digest(d) => write!(f, "{d:016x}"),
-            Part::Certificate(epoch, d) => write!(f, "{epoch}:{d:016x}"),
+        match &self.0 {
+            Some(part) => write!(f, "{part}"),
+            None => f.write_str("none"),
         }
     }
 }
 
-fn number_part(number: Option<u64>) -> Part {
-    match number {
-        Some(n) => Part::Number(n),
-        None => Part::Missing,
+#[derive(Clone, Copy)]
+struct DigestText(DigestValue);
+
+impl fmt::Display for DigestText {
+    fn fmt<W: fmt::Write>(&self, f: &mut fmt::Formatter<W>) -> fmt::Result {
+        write!(f, "{:016x}", self.0.number())
     }
 }
 
-fn digest_part(digest: Option<DigestValue>) -> Part {
-    match digest {
-        Some(d) => Part::Digest(d.number()),
-        None => Part::Missing,
+// A certificate without its prepares.
+#[derive(Clone, Copy)]
+struct CertificateText<'a>(&'a Certificate);
+
+impl fmt::Display for CertificateText<'_> {
+    fn fmt<W: fmt::Write>(&self, f: &mut fmt::Formatter<W>) -> fmt::Result {
+        let Certificate { epoch, digest, .. } = self.0;
+        write!(f, "{epoch}:{}", DigestText(*digest))
     }
 }
 
-fn certificate_part(certificate: &Option<Certificate>) -> Part {
-    match certificate {
-        Some(c) => Part::Certificate(c.epoch, c.digest.number()),
-        None => Part::Missing,
+// A house that is open.
+#[derive(Clone, Copy)]
+pub struct HouseLine(pub House);
+
+impl fmt::Display for HouseLine {
+    fn fmt<W: fmt::Write>(&self, f: &mut fmt::Formatter<W>) -> fmt::Result {
+        let house = self.0;
+        let (n, faults, quorum) = (house.n(), house.faults(), house.quorum());
+        write!(f, "house {n} f={faults} q={quorum}")
     }
 }
 
-pub(crate) fn show_bad(rt: &HostRuntime, wrong: Wrong) -> anyhow::Result<()> {
-    let text = wrong.text();
-    println!(rt; "bad line: {text}")?;
-    Ok(())
+// What a call answered, and a line for each of the statements that it sent.
+#[derive(Clone, Copy)]
+pub struct Reply<'a> {
+    pub answer: Answer,
+    pub sent: &'a [Sealed],
 }
 
-// A house of n that is open.
-pub(crate) fn show_house(rt: &HostRuntime, n: u8) -> anyhow::Result<()> {
-    if let Ok(house) = House::new(n, 0) {
-        let f = house.faults();
-        let q = house.quorum();
-        println!(rt; "house {n} f={f} q={q}")?;
-    }
-    Ok(())
-}
-
-pub(crate) fn show_roll(rt: &HostRuntime, count: usize) -> anyhow::Result<()> {
-    println!(rt; "roll {count}")?;
-    Ok(())
-}
-
-pub(crate) fn show_outbox(rt: &HostRuntime, i: usize, places: u64) -> anyhow::Result<()> {
-    println!(rt; "outbox {i} {places}")?;
-    Ok(())
-}
-
-pub(crate) fn show_refusal(rt: &HostRuntime, refusal: Refusal) -> anyhow::Result<()> {
-    let number = refusal.number();
-    match refusal {
-        Refusal::Frame(fault) => {
-            let place = fault.place;
-            println!(rt; "refused {number} place {place}")?
+impl fmt::Display for Reply<'_> {
+    fn fmt<W: fmt::Write>(&self, f: &mut fmt::Formatter<W>) -> fmt::Result {
+        let Answer {
+            issued,
+            forwarded,
+            first,
+            batches,
+            applied,
+            passed,
+        } = self.answer;
+        write!(
+            f,
+            "ok {issued} {forwarded} {first} {batches} {applied} {passed}"
+        )?;
+        for sealed in self.sent {
+            if let Ok(frame) = write_sealed(sealed) {
+                write!(f, "\n  {}", Hex(&frame))?;
+            }
         }
-        Refusal::Request(at) | Refusal::Record(at) => println!(rt; "refused {number} at {at}")?,
-        _ => println!(rt; "refused {number}")?,
-    }
-    Ok(())
-}
-
-fn show_sent(rt: &HostRuntime, sent: &[Sealed]) -> anyhow::Result<()> {
-    for sealed in sent {
-        if let Ok(frame) = write_sealed(sealed) {
-            let hex = Hex(&frame);
-            println!(rt; "  {hex}")?;
-        }
-    }
-    Ok(())
-}
-
-fn show_answer(rt: &HostRuntime, answer: &Answer) -> anyhow::Result<()> {
-    let issued = answer.issued;
-    let forwarded = answer.forwarded;
-    let first = answer.first;
-    let batches = answer.batches;
-    let applied = answer.applied;
-    let passed = answer.passed;
-    println!(rt; "ok {issued} {forwarded} {first} {batches} {applied} {passed}")?;
-    Ok(())
-}
-
-// What a call answered, and what it put into the outbox.
-pub(crate) fn show_result(
-    rt: &HostRuntime,
-    res: &Result<Answer, Refusal>,
-    outbox: &[Sealed],
-) -> anyhow::Result<()> {
-    match *res {
-        Ok(answer) => {
-            show_answer(rt, &answer)?;
-            let sent = answer
-                .issued
-                .saturating_add(answer.forwarded)
-                .min(outbox.len());
-            show_sent(rt, &outbox[0..sent])
-        }
-        Err(refusal) => show_refusal(rt, refusal),
+        Ok(())
     }
 }
 
-pub(crate) fn show_controller<D: Digest, A: Application>(
-    rt: &HostRuntime,
-    i: usize,
-    member: &Controller<D, A>,
-) -> anyhow::Result<()> {
-    let view = member.view();
-    let epoch = view.epoch;
-    let changing = u8::from(view.changing);
-    let leaders = view.leaders;
-    let first = view.first;
-    let last = number_part(view.last);
-    print!(rt;
-        "controller {i} epoch={epoch} changing={changing} leaders={leaders} first={first} last={last} "
-    )?;
-    let stable = member.stable();
-    let delivered = member.delivered();
-    let mark = member.mark();
-    println!(rt; "stable={stable} delivered={delivered} mark={mark:016x}")?;
-    Ok(())
+// What is seen of controller i.
+#[derive(Clone, Copy)]
+pub struct ControllerLine<'a> {
+    pub i: usize,
+    pub member: &'a Controller<AnyDigest, AnyApplication>,
 }
 
-pub(crate) fn show_window(
-    rt: &HostRuntime,
-    i: usize,
-    client: u8,
-    window: Option<Window>,
-) -> anyhow::Result<()> {
-    let Some(window) = window else {
-        return show_bad(rt, Wrong::Client);
-    };
-    let base = window.base();
-    let marks = window.marks();
-    println!(rt; "window {i} {client} base={base} marks={marks:016x}")?;
-    Ok(())
+impl fmt::Display for ControllerLine<'_> {
+    fn fmt<W: fmt::Write>(&self, f: &mut fmt::Formatter<W>) -> fmt::Result {
+        let ControllerLine { i, member } = self;
+        let view = member.view();
+        write!(
+            f,
+            "controller {i} epoch={} changing={} leaders={} first={} last={} ",
+            view.epoch,
+            u8::from(view.changing),
+            view.leaders,
+            view.first,
+            Part(view.last)
+        )?;
+        write!(
+            f,
+            "stable={} delivered={} mark={:016x}",
+            member.stable(),
+            member.delivered(),
+            member.mark()
+        )
+    }
 }
 
-pub(crate) fn show_place(
-    rt: &HostRuntime,
-    i: usize,
-    number: u64,
-    place: Option<&Place>,
-) -> anyhow::Result<()> {
-    let Some(place) = place else {
-        return show_bad(rt, Wrong::Outside);
-    };
-    let proposal = digest_part(place.proposal);
-    let known = match &place.batch {
-        Some(batch) => Part::Number(u64::from(batch.count)),
-        None => Part::Missing,
-    };
-    print!(rt; "batch {i} {number} proposal={proposal} known={known} ")?;
-    let prepares = voters(&place.prepares);
-    let commits = voters(&place.commits);
-    let certificate = certificate_part(&place.certificate);
-    println!(rt; "prepares={prepares} commits={commits} certificate={certificate}")?;
-    Ok(())
+// A client's window, as controller i has it.
+#[derive(Clone, Copy)]
+pub struct WindowLine {
+    pub i: usize,
+    pub client: u8,
+    pub window: Window,
 }
 
-pub(crate) fn show_account(rt: &HostRuntime, account: &Account) -> anyhow::Result<()> {
-    let calls = account.calls;
-    let accepted = account.accepted;
-    let refused = account.refused;
-    let batches = account.batches;
-    let applied = account.applied;
-    let passed = account.passed;
-    println!(rt; "")?;
-    println!(rt;
-        "account calls={calls} accepted={accepted} refused={refused} batches={batches} applied={applied} passed={passed}"
-    )?;
+impl fmt::Display for WindowLine {
+    fn fmt<W: fmt::Write>(&self, f: &mut fmt::Formatter<W>) -> fmt::Result {
+        let WindowLine { i, client, window } = self;
+        write!(
+            f,
+            "window {i} {client} base={} marks={:016x}",
+            window.base(),
+            window.marks()
+        )
+    }
+}
+
+// What controller i keeps of a number.
+#[derive(Clone, Copy)]
+pub struct PlaceLine<'a> {
+    pub i: usize,
+    pub number: u64,
+    pub place: &'a Place,
+}
+
+impl fmt::Display for PlaceLine<'_> {
+    fn fmt<W: fmt::Write>(&self, f: &mut fmt::Formatter<W>) -> fmt::Result {
+        let PlaceLine { i, number, place } = self;
+        let proposal = Part(place.proposal.map(DigestText));
+        let known = Part(place.batch.as_ref().map(|batch| batch.count));
+        let prepares = voters(&place.prepares);
+        let commits = voters(&place.commits);
+        let certificate = Part(place.certificate.as_ref().map(CertificateText));
+        write!(
+            f,
+            "batch {i} {number} proposal={proposal} known={known} prepares={prepares} commits={commits} certificate={certificate}"
+        )
+    }
+}
+
+// What a line asks for, or why it is not carried out.
+pub(crate) fn show<T: fmt::Display + Drop>(
+    rt: &HostRuntime,
+    asked: Result<T, LineFault>,
+) -> anyhow::Result<()> {
+    match asked {
+        Ok(text) => println!(rt; "{text}")?,
+        Err(fault) => println!(rt; "{fault}")?,
+    }
     Ok(())
 }

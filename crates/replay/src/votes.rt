@@ -1,23 +1,11 @@
 // How many have voted.
 ghost use Rattle.std.specs.Prelude.{◌≡◌};
-ghost use Rattle.replay.specs.Ballots.{voters, cast};
+ghost use Rattle.replay.specs.Ballots.{voters};
 
-use table::records::{Ballot, Ballots};
-
-fn cast(slots: &[Option<Ballot>]) -> usize
-    ensures { result ≡ cast slots.now }
-{
-    let mut count = 0;
-    for slot in slots {
-        if slot.is_some() {
-            count += 1;
-        }
-    }
-    count
-}
+use table::records::Ballots;
 
 pub(crate) fn voters(ballots: &Ballots) -> usize
     ensures { result ≡ voters ballots.now }
 {
-    cast(&ballots.of)
+    ballots.of.iter().filter(|slot| slot.is_some()).count()
 }

@@ -1,56 +1,58 @@
 // A line by its words, which stand apart by one space each.
+ghost use Rattle.std.specs.Prelude.{◌≡◌, ok_or};
+ghost use Rattle.replay.specs.Numbers.{number_in};
+
 use crate::fault::{LineFault, Wrong};
 use crate::frames::{bytes_in, list_in, read_list};
-use crate::line::{ApplicationName, Call, DigestName, Line, Opening};
-use crate::numbers::number_in;
+use crate::line::{Asked, Call, Line, Opening};
+use application::interface::LAST_CLIENT;
 use std::alloc::Global;
 use std::str::from_utf8;
+use text::numbers::number_in;
 use wire::reading::{read_batch, read_sealed};
 
-fn number(word: &str) -> Result<u64, Wrong> {
-    match number_in(word.as_bytes()) {
-        Some(n) => Ok(n),
-        None => Err(Wrong::Number),
-    }
+// A number of one or more digits, below 2^64.
+fn number(word: &str) -> Result<u64, Wrong>
+    ensures { result ≡ ok_or (number_in word.now) Wrong.Number }
+{
+    number_in(word).ok_or(Wrong::Number)
 }
 
-// One of the controllers of the house, of which there are `members`.
-fn controller(members: usize, word: &str) -> Result<usize, Wrong> {
+// One of the controllers of the house that is open, of which there are `members`.
+fn controller(members: Option<usize>, word: &str) -> Result<usize, Wrong> {
     let i = number(word)?;
-    if members == 0 {
-        return Err(Wrong::NoHouse);
-    }
-    if i >= members as u64 {
-        return Err(Wrong::Controller);
-    }
-    Ok(i as usize)
+    let members = members.ok_or(Wrong::NoHouse)?;
+    usize::try_from(i)
+        .ok()
+        .filter(|i| *i < members)
+        .ok_or(Wrong::Controller)
 }
 
 fn client(word: &str) -> Result<u8, Wrong> {
-    let c = number(word)?;
-    if c > 31 {
-        return Err(Wrong::Client);
-    }
-    Ok(c as u8)
+    u8::try_from(number(word)?)
+        .ok()
+        .filter(|client| *client <= LAST_CLIENT)
+        .ok_or(Wrong::Client)
 }
 
-fn opening(n: &str, application: &str, digest: &str) -> Result<Opening, Wrong> {
-    let n = number(n)?;
-    let application = match application {
-        "tanks" => ApplicationName::Tanks,
-        "valves" => ApplicationName::Valves,
-        _ => return Err(Wrong::Application),
-    };
-    let digest = match digest {
-        "fnv" => DigestName::Fnv,
-        "sha256" => DigestName::Sha256,
-        _ => return Err(Wrong::Digest),
+fn opening(words: &[&str]) -> Result<Opening, Wrong> {
+    let [n, application, digest] = words else {
+        return Err(Wrong::Words);
     };
     Ok(Opening {
-        n,
-        application,
-        digest,
+        n: u8::try_from(number(n)?).unwrap_or(u8::MAX),
+        application: application.parse()?,
+        digest: digest.parse()?,
     })
+}
+
+fn genuine(heap: Global, members: Option<usize>, words: &[&str]) -> Result<Asked, LineFault> {
+    let [sealed] = words else {
+        return Err(LineFault::Bad(Wrong::Words));
+    };
+    let sealed = bytes_in(heap, sealed)?;
+    members.ok_or(Wrong::NoHouse)?;
+    Ok(Asked::Genuine(read_sealed(sealed.as_slice())?))
 }
 
 fn offer(heap: Global, proposal: &str, batch: &str) -> Result<Call, LineFault> {
@@ -96,58 +98,55 @@ fn call(heap: Global, name: &str, words: &[&str]) -> Result<Call, LineFault> {
         ("giveup", []) => Ok(Call::GiveUp),
         ("enter", [new, records @ ..]) => enter(heap, new, records),
         ("turn", []) => Ok(Call::Turn),
-        _ => Err(LineFault::Word(Wrong::Words)),
+        _ => Err(LineFault::Bad(Wrong::Words)),
     }
-}
-
-fn genuine(heap: Global, members: usize, sealed: &str) -> Result<Line, LineFault> {
-    let sealed = bytes_in(heap, sealed)?;
-    if members == 0 {
-        return Err(LineFault::Word(Wrong::NoHouse));
-    }
-    Ok(Line::Genuine(read_sealed(sealed.as_slice())?))
 }
 
 // What is asked of one controller besides a call.
-fn question(members: usize, words: &[&str]) -> Result<Line, Wrong> {
-    match words {
-        ["outbox", i, places] => Ok(Line::Outbox(controller(members, i)?, number(places)?)),
-        ["show", i] => Ok(Line::Show(controller(members, i)?)),
-        ["window", i, c] => Ok(Line::Window(controller(members, i)?, client(c)?)),
-        ["batch", i, s] => Ok(Line::Batch(controller(members, i)?, number(s)?)),
-        [
-            "outbox" | "show" | "window" | "batch" | "house" | "genuine",
-            ..
-        ] => Err(Wrong::Words),
-        [name] if is_call(name) => Err(Wrong::Words),
-        _ => Err(Wrong::NoOrder),
+fn question(members: Option<usize>, name: &str, words: &[&str]) -> Result<Asked, Wrong> {
+    match (name, words) {
+        ("outbox", [i, places]) => Ok(Asked::Outbox(controller(members, i)?, number(places)?)),
+        ("show", [i]) => Ok(Asked::Show(controller(members, i)?)),
+        ("window", [i, c]) => Ok(Asked::Window(controller(members, i)?, client(c)?)),
+        ("batch", [i, s]) => Ok(Asked::Batch(controller(members, i)?, number(s)?)),
+        _ => Err(Wrong::Words),
     }
 }
 
-fn is_call(name: &str) -> bool {
+// The line of the words after its name.
+fn line_of(
+    heap: Global,
+    members: Option<usize>,
+    name: &str,
+    words: &[&str],
+) -> Result<Line, LineFault> {
     match name {
-        "offer" | "vote" | "supply" | "prove" | "giveup" | "enter" | "turn" => true,
-        _ => false,
-    }
-}
-
-fn words_of(heap: Global, members: usize, words: &[&str]) -> Result<Line, LineFault> {
-    match words {
-        ["house", n, application, digest] => Ok(Line::House(opening(n, application, digest)?)),
-        ["genuine", sealed] => genuine(heap, members, sealed),
-        [name, i, rest @ ..] if is_call(name) => {
+        "house" => Ok(Line::House(opening(words)?)),
+        "genuine" => Ok(Line::Asked(genuine(heap, members, words)?)),
+        "offer" | "vote" | "supply" | "prove" | "giveup" | "enter" | "turn" => {
+            let [i, words @ ..] = words else {
+                return Err(LineFault::Bad(Wrong::Words));
+            };
             let i = controller(members, i)?;
-            Ok(Line::Call(i, call(heap, name, rest)?))
+            Ok(Line::Asked(Asked::Call(i, call(heap, name, words)?)))
         }
-        _ => Ok(question(members, words)?),
+        "outbox" | "show" | "window" | "batch" => {
+            Ok(Line::Asked(question(members, name, words)?))
+        }
+        _ => Err(LineFault::Bad(Wrong::NoOrder)),
     }
 }
 
-// A line that is not skipped, in a house of so many controllers (0: no house is open).
-pub(crate) fn line_in(heap: Global, members: usize, bytes: &[u8]) -> Result<Line, LineFault> {
-    let Ok(text) = from_utf8(bytes) else {
-        return Err(LineFault::Word(Wrong::NoText));
-    };
+// A line that is not skipped, in a house of so many controllers, if one is open.
+pub(crate) fn line_in(
+    heap: Global,
+    members: Option<usize>,
+    bytes: &[u8],
+) -> Result<Line, LineFault> {
+    let text = from_utf8(bytes).map_err(|_| Wrong::NoText)?;
     let words: Vec<&str> = text.split(' ').collect(heap)?;
-    words_of(heap, members, words.as_slice())
+    match words.as_slice() {
+        [name, words @ ..] => line_of(heap, members, name, words),
+        [] => Err(LineFault::Bad(Wrong::NoOrder)),
+    }
 }
