@@ -6,5 +6,4 @@ ghost use Rattle.cases.specs.Cases.{Cases};
 // Each case computes: an edit of a definition that turns its meaning is refused here.
 pub fn cases_hold()
     ensures { Cases }
-{
-}
+{}
