@@ -8,7 +8,7 @@ use wire::kinds::Kind;
 use wire::records::{DigestValue, Sealed, Statement};
 
 // An outbox that is filled from its first place on. It is lent by the host, and what a call does not fill
-// stays, so it is no `Vec`.
+// stays, so it is no `Vec`. How much room is left is a premise of each part, since each needs another.
 #[derive(Drop)]
 pub(crate) struct Post<'a> {
     pub(crate) outbox: &'a mut [Sealed],

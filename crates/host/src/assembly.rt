@@ -39,6 +39,7 @@ fn add_numbers(out: &mut Vec<Sealed>, partings: &[Vec<Sealed>], base: u64) -> Re
     if base > LAST {
         return Ok(());
     }
+    // numbers of the log, not indexes
     for s in base + 1..=base + 32 {
         add_number(out, partings, s)?;
     }

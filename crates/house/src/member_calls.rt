@@ -1,5 +1,6 @@
 // The calls, by the number of the controller; none where there is no such controller, and then nothing
-// changes. The call is the controller's own, and no other controller changes.
+// changes. The call is the controller's own, and no other controller changes. Seven methods of two lines, and no
+// one that takes a closure: each has the contract of its call.
 ghost use Rattle.std.specs.Prelude.{◌≡◌};
 ghost use Rattle.protocol.specs.Offer.{offered};
 ghost use Rattle.protocol.specs.Vote.{voted};

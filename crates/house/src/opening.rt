@@ -72,6 +72,7 @@ impl<D: Digest + Copy, A: Application + Copy> Members<D, A> {
         let mut members = Members {
             controllers: Vec::new(heap),
         };
+        // controllers' numbers, not indexes
         for own in 0..n {
             members.open_next(n, own, digest, start)?;
         }

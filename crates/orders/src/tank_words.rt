@@ -10,6 +10,7 @@ use tanks::state::Tanks;
 use tanks::tank::Tank;
 use text::numbers::number_in;
 
+// Each order names its own fields and faults, here and for the valves, so there is no one reader for all.
 fn set_words(tank: Option<u8>, degrees: Option<i16>) -> Result<TankOrder, Wrong>
     ensures { result ≡ set_words tank degrees }
 {

@@ -43,6 +43,7 @@ pub enum Refusal {
 }
 
 impl Refusal {
+    // A method, and no `From`: a number is read off a refusal, and none is made of one.
     pub fn number(&self) -> u8
         ensures { result ≡ refusal_number self.now }
     {

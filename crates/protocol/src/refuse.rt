@@ -175,6 +175,7 @@ impl Core {
         }
         let batch = batch_of(digest, &st.digest, requests)?;
         check_seal(checker, proposal)?;
+        // where the first bad one stands is no error until the call makes it one, here and in `check_prove`
         if let Some(i) = self.first_bad(checker, digest, st.number, requests) {
             return Err(Refusal::Request(i));
         }

@@ -28,6 +28,7 @@ pub(crate) fn batch_of<D: Digest>(
     Ok(batch)
 }
 
+// No `==`: payload and seal do not count.
 fn is_same(a: &Request, b: &Request) -> bool
     ensures { result ≡ same_request a.now b.now }
 {

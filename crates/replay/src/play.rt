@@ -67,9 +67,9 @@ impl Play {
 
     pub(crate) fn finish(&self, rt: &HostRuntime) -> anyhow::Result<()> {
         println!(rt; "\n{}", self.account)?;
-        match &self.session {
-            Some(session) => session.show_all(rt),
-            None => Ok(()),
+        if let Some(session) = &self.session {
+            session.show_all(rt)?;
         }
+        Ok(())
     }
 }

@@ -10,7 +10,8 @@ pub struct Farm {
 }
 
 impl Farm {
-    // What a tank holds, if there is such a tank.
+    // What a tank holds, if there is such a tank. The library's look-up in one line, as in other records of
+    // places: what it looks into is the record's own.
     pub(crate) fn tank(&self, tank: u8) -> Option<Tank>
         ensures { result ≡ read_tank self.now tank }
     {

@@ -30,6 +30,7 @@ fn bad_digit(text: &[u8]) -> Option<usize>
 pub fn decode_hex(heap: Global, text: &[u8]) -> Result<Vec<u8>, HexFault>
     ensures { Decodes vec_items result (hex text.now) }
 {
+    // a place, if there is one, is a find and no error before this line
     if let Some(place) = bad_digit(text) {
         return Err(HexFault::Digit(place));
     }

@@ -7,7 +7,7 @@ use crate::faults::FrameFault;
 use crate::kinds::{BATCH, Kind};
 use crate::records::{Batch, DigestValue, Request, Sealed, Statement};
 
-// What a frame opens with: the length of what follows, the version and the kind byte.
+// What a frame opens with: the length of what follows, the version and the kind byte, which may be a batch's.
 #[derive(Clone, Copy, PartialEq, Eq, Debug)]
 pub(crate) struct Header {
     long: u16,
@@ -82,7 +82,8 @@ fn sealed_after(header: Header, body: &[u8]) -> Result<(Sealed, &[u8]), FrameFau
     Ok((sealed_at(header.kind, fields), rest))
 }
 
-// A sealed statement from the front of `bytes`, and the bytes after it.
+// A sealed statement from the front of `bytes`, and the bytes after it. What it shares with a batch's are the header
+// and `alone`; one reader for both would take the rest as a closure and say no more.
 pub fn take_sealed(bytes: &[u8]) -> Result<(Sealed, &[u8]), FrameFault>
     ensures { Reads result (take_sealed bytes.now) }
 {

@@ -15,7 +15,8 @@ impl From<u64> for DigestValue {
 }
 
 impl DigestValue {
-    // The number that a value stands for.
+    // The number that a value stands for. A method, since it is read where a value is looked into, and no
+    // conversion of the whole.
     pub fn number(&self) -> u64
         ensures { result ≡ number_of self.now }
     {

@@ -1,4 +1,4 @@
-// The six functions on words.
+// The six functions on words, each by its name in the standard, however alike.
 ghost use Rattle.std.specs.Prelude.{◌≡◌, ◌+◌, ◌*◌, ◌≤◌, length};
 ghost use Rattle.digest.specs.Words.{Ch, Maj, Σ0, Σ1, σ0, σ1, word_at};
 
