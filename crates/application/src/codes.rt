@@ -6,7 +6,7 @@ ghost use Rattle.application.specs.Texts.{reject_text, no_reject_text};
 use std::error::Error;
 use std::fmt;
 
-// The code of an order that is carried out.
+// The code of an order that is carried out; a number, since that is no reject.
 pub const DONE: u8 = 0;
 
 // Why an order is not carried out, each with its code. They are tried in this order, and any of them changes nothing.

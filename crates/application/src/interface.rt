@@ -4,6 +4,7 @@ ghost use Rattle.std.specs.Prelude.{◌≡◌, ℕ};
 // Clients are numbered from 0 up to this.
 pub const LAST_CLIENT: u8 = 31;
 
+// A code is a byte: an enum here would ask more of whoever writes an application.
 pub trait Application {
     // the state after an order of (client, timestamp, payload)
     ghost next: { Self → ℕ → ℕ → ℕ → Self };

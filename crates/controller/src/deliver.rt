@@ -69,7 +69,8 @@ pub(crate) fn deliver_one<P: Application>(
     }
 }
 
-// Delivers what is ready: at most 32 batches, since a number that is ready has a place.
+// Delivers what is ready: at most 32 batches, since a number that is ready has a place. It is asked anew each
+// time, since a delivery changes what is next.
 pub(crate) fn deliver_ready<P: Application>(
     core: &mut Core,
     app: &mut P,

@@ -33,35 +33,35 @@ went false x y z e = inr (refl, e)
 
 module _ (accepts : Statement → ℕ → Bool) (terms : Terms) (rs : List Sealed) where
   pub record Parts (o : Opened) : Type 0 where
-    pub stables : Stood signer_of (stable_fits accepts terms) terms.n terms.q 0 0 rs terms.q
-    pub base_is : o.base ≡ largest (take terms.q rs)
-    pub mark_is : o.mark ≡ mark_at rs o.base terms.q
+    pub stables : Stood signer_of (stable_fits accepts terms) terms.threshold.n terms.threshold.q 0 0 rs terms.threshold.q
+    pub base_is : o.base ≡ largest (take terms.threshold.q rs)
+    pub mark_is : o.mark ≡ mark_at rs o.base terms.threshold.q
     pub low : o.base ≤ 1000000000000
     pub start : ℕ
-    pub marked : checkpoints accepts terms rs o.base terms.q ≡ Ok start
+    pub marked : checkpoints accepts terms rs o.base terms.threshold.q ≡ Ok start
     pub end : ℕ
-    pub counted : numbers accepts terms rs (take terms.q rs) 32 (o.base + 1) start [] ≡ Ok (record { value = o.claims; next = end })
+    pub counted : numbers accepts terms rs (take terms.threshold.q rs) 32 (o.base + 1) start [] ≡ Ok (record { value = o.claims; next = end })
     pub whole : length rs ≤ end
 
   pub parts : (o : Opened) → walked accepts terms rs ≡ Ok o → Parts o
   parts o e =
       let a = through _ _ _ e in
-      let w = stood signer_of (stable_fits accepts terms) terms.n terms.q 0 0 rs a.value a.first in
-      let k : a.value ≡ terms.q = omega (arith, w.after) in
+      let w = stood signer_of (stable_fits accepts terms) terms.threshold.n terms.threshold.q 0 0 rs a.value a.first in
+      let k : a.value ≡ terms.threshold.q = omega (arith, w.after) in
       let b = through _ _ _ a.second in
       let c = through _ _ _ b.second in
       finish a.value k w (stables_enough accepts terms rs _ a.value refl a.first).1 b.value b.first c.value c.first (went (ltb c.value.next (length rs)) _ _ _ c.second)
     where
       B : ℕ
-      B = largest (take terms.q rs)
+      B = largest (take terms.threshold.q rs)
 
-      finish : (p : ℕ) → p ≡ terms.q → Stood signer_of (stable_fits accepts terms) terms.n terms.q 0 0 rs p → B ≤ 1000000000000 → (s : ℕ) → checkpoints accepts terms rs B p ≡ Ok s → (w : Found (List Claim)) → numbers accepts terms rs (take terms.q rs) 32 (B + 1) s [] ≡ Ok w
+      finish : (p : ℕ) → p ≡ terms.threshold.q → Stood signer_of (stable_fits accepts terms) terms.threshold.n terms.threshold.q 0 0 rs p → B ≤ 1000000000000 → (s : ℕ) → checkpoints accepts terms rs B p ≡ Ok s → (w : Found (List Claim)) → numbers accepts terms rs (take terms.threshold.q rs) 32 (B + 1) s [] ≡ Ok w
           → ((ltb w.next (length rs) ≡ true) × (◌≡◌ {A = Result Opened ℕ} (Err w.next) (Ok o))) ⊎ ((ltb w.next (length rs) ≡ false) × (◌≡◌ {A = Result Opened ℕ} (Ok (record { base = B; mark = mark_at rs B p; claims = w.value })) (Ok o)))
           → Parts o
       finish p k st low s es w ew (inl h) = absurd cc
       finish p k st low s es w ew (inr h) =
           subst Parts (ok_is _ o h.1) (record {
-            stables = subst (λ z. Stood signer_of (stable_fits accepts terms) terms.n terms.q 0 0 rs z) k st;
+            stables = subst (λ z. Stood signer_of (stable_fits accepts terms) terms.threshold.n terms.threshold.q 0 0 rs z) k st;
             base_is = refl;
             mark_is = ap (mark_at rs B) k;
             low = low;

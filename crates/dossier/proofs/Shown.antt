@@ -100,7 +100,7 @@ module _ (accepts : Statement → ℕ → Bool) (terms : Terms) (rs : List Seale
       go (inl k) = f i l k h
       go (inr k) = g i k u h
 
-  pub group_covers : (allows : Sealed → Bool) (k p p' : ℕ) → ((r : Sealed) → allows r ≡ true → accepts r.statement r.seal ≡ true) → Stood signer_of allows terms.n k p 0 (drop p rs) p' → Covered p p'
+  pub group_covers : (allows : Sealed → Bool) (k p p' : ℕ) → ((r : Sealed) → allows r ≡ true → accepts r.statement r.seal ≡ true) → Stood signer_of allows terms.threshold.n k p 0 (drop p rs) p' → Covered p p'
   group_covers allows k p p' tells w i l u h =
       let j : ℕ = i - p in
       let small : j < k = omega (arith, w.after) in
@@ -245,7 +245,7 @@ module _ (accepts : Statement → ℕ → Bool) (terms : Terms) (rs : List Seale
     pub each : AllByRecursion (Answered s (settled c)) ts
     pub empty : c.epoch ≡ 0 → c.digest ≡ value_of 0
     pub below : 1 ≤ terms.epoch → c.epoch < terms.epoch
-    pub backed : 1 ≤ c.epoch → (p : ℕ) × (p' : ℕ) × Stood signer_of (exactly accepts Prepare c.epoch s c.digest) terms.n terms.q p 0 (drop p rs) p'
+    pub backed : 1 ≤ c.epoch → (p : ℕ) × (p' : ℕ) × Stood signer_of (exactly accepts Prepare c.epoch s c.digest) terms.threshold.n terms.threshold.q p 0 (drop p rs) p'
 
   record Shown (ts : List Sealed) (s place : ℕ) (f : Found Claim) : Type 0 where
     covered : Covered place f.next
@@ -259,7 +259,7 @@ module _ (accepts : Statement → ℕ → Bool) (terms : Terms) (rs : List Seale
     where
       go : (g : Found Tally) → Answers s place ts blank g → g.value.clash ≡ false
           → ((eqb g.value.claim.epoch 0 ≡ true) × (◌≡◌ {A = Result (Found Claim) ℕ} (Ok (record { value = g.value.claim; next = g.next })) (Ok f)))
-          ⊎ ((eqb g.value.claim.epoch 0 ≡ false) × (onward (grouped signer_of (exactly accepts Prepare g.value.claim.epoch s g.value.claim.digest) terms.n terms.q g.next 0 (drop g.next rs)) (λ p. Ok (record { value = g.value.claim; next = p })) ≡ Ok f))
+          ⊎ ((eqb g.value.claim.epoch 0 ≡ false) × (onward (grouped signer_of (exactly accepts Prepare g.value.claim.epoch s g.value.claim.digest) terms.threshold.n terms.threshold.q g.next 0 (drop g.next rs)) (λ p. Ok (record { value = g.value.claim; next = p })) ≡ Ok f))
           → Shown ts s place f
       go g w calm-is (inl h) =
           subst (Shown ts s place) (ok_is _ f h.1) (record {
@@ -268,9 +268,9 @@ module _ (accepts : Statement → ℕ → Bool) (terms : Terms) (rs : List Seale
           })
       go g w calm-is (inr h) =
           let b = through _ _ f h.1 in
-          let st = stood signer_of (exactly accepts Prepare g.value.claim.epoch s g.value.claim.digest) terms.n terms.q g.next 0 (drop g.next rs) b.value b.first in
+          let st = stood signer_of (exactly accepts Prepare g.value.claim.epoch s g.value.claim.digest) terms.threshold.n terms.threshold.q g.next 0 (drop g.next rs) b.value b.first in
           subst (Shown ts s place) (ok_is _ f b.second) (record {
-            covered = covers place g.next b.value w.covered (group_covers (exactly accepts Prepare g.value.claim.epoch s g.value.claim.digest) terms.q g.next b.value (λ r k. (exact_is accepts Prepare _ s _ r k).1) st);
+            covered = covers place g.next b.value w.covered (group_covers (exactly accepts Prepare g.value.claim.epoch s g.value.claim.digest) terms.threshold.q g.next b.value (λ r k. (exact_is accepts Prepare _ s _ r k).1) st);
             claimed = record { each = subst (λ z. AllByRecursion (Answered s z) ts) (λ i. record { claim = g.value.claim; clash = calm-is i }) w.each; empty = w.empty (λ _. refl); below = λ k. w.below (omega arith); backed = λ k. (g.next, b.value, st) };
           })
 

@@ -64,43 +64,43 @@ stable_aligned accepts terms r h =
 
 module _ (accepts : Statement → ℕ → Bool) (terms : Terms) (rs : List Sealed) where
   -- the checkpoints of an accepted dossier
-  marks_stood : (o : Opened) (w : Parts accepts terms rs o) → 0 < o.base → grouped signer_of (exactly accepts Checkpoint 0 o.base o.mark) terms.n terms.q terms.q 0 (drop terms.q rs) ≡ Ok w.start
+  marks_stood : (o : Opened) (w : Parts accepts terms rs o) → 0 < o.base → grouped signer_of (exactly accepts Checkpoint 0 o.base o.mark) terms.threshold.n terms.threshold.q terms.threshold.q 0 (drop terms.threshold.q rs) ≡ Ok w.start
   marks_stood o w h = go (went (eqb o.base 0) _ _ _ w.marked)
     where
-      go : ((eqb o.base 0 ≡ true) × (◌≡◌ {A = Result ℕ ℕ} (Ok terms.q) (Ok w.start)))
-          ⊎ ((eqb o.base 0 ≡ false) × (grouped signer_of (exactly accepts Checkpoint 0 o.base (mark_at rs o.base terms.q)) terms.n terms.q terms.q 0 (drop terms.q rs) ≡ Ok w.start))
-          → grouped signer_of (exactly accepts Checkpoint 0 o.base o.mark) terms.n terms.q terms.q 0 (drop terms.q rs) ≡ Ok w.start
+      go : ((eqb o.base 0 ≡ true) × (◌≡◌ {A = Result ℕ ℕ} (Ok terms.threshold.q) (Ok w.start)))
+          ⊎ ((eqb o.base 0 ≡ false) × (grouped signer_of (exactly accepts Checkpoint 0 o.base (mark_at rs o.base terms.threshold.q)) terms.threshold.n terms.threshold.q terms.threshold.q 0 (drop terms.threshold.q rs) ≡ Ok w.start))
+          → grouped signer_of (exactly accepts Checkpoint 0 o.base o.mark) terms.threshold.n terms.threshold.q terms.threshold.q 0 (drop terms.threshold.q rs) ≡ Ok w.start
       go (inl k) = absurd (omega (arith, eqb-true o.base 0 k.0))
-      go (inr k) = subst (λ (m : DigestValue). grouped signer_of (exactly accepts Checkpoint 0 o.base m) terms.n terms.q terms.q 0 (drop terms.q rs) ≡ Ok w.start) (sym w.mark_is) k.1
+      go (inr k) = subst (λ (m : DigestValue). grouped signer_of (exactly accepts Checkpoint 0 o.base m) terms.threshold.n terms.threshold.q terms.threshold.q 0 (drop terms.threshold.q rs) ≡ Ok w.start) (sym w.mark_is) k.1
 
-  marks_cover : (o : Opened) (w : Parts accepts terms rs o) → Covered accepts terms rs terms.q w.start
+  marks_cover : (o : Opened) (w : Parts accepts terms rs o) → Covered accepts terms rs terms.threshold.q w.start
   marks_cover o w = go (went (eqb o.base 0) _ _ _ w.marked)
     where
-      go : ((eqb o.base 0 ≡ true) × (◌≡◌ {A = Result ℕ ℕ} (Ok terms.q) (Ok w.start)))
-          ⊎ ((eqb o.base 0 ≡ false) × (grouped signer_of (exactly accepts Checkpoint 0 o.base (mark_at rs o.base terms.q)) terms.n terms.q terms.q 0 (drop terms.q rs) ≡ Ok w.start))
-          → Covered accepts terms rs terms.q w.start
-      go (inl h) = λ i l u k. let z = ok_is terms.q w.start h.1 in absurd (omega arith)
+      go : ((eqb o.base 0 ≡ true) × (◌≡◌ {A = Result ℕ ℕ} (Ok terms.threshold.q) (Ok w.start)))
+          ⊎ ((eqb o.base 0 ≡ false) × (grouped signer_of (exactly accepts Checkpoint 0 o.base (mark_at rs o.base terms.threshold.q)) terms.threshold.n terms.threshold.q terms.threshold.q 0 (drop terms.threshold.q rs) ≡ Ok w.start))
+          → Covered accepts terms rs terms.threshold.q w.start
+      go (inl h) = λ i l u k. let z = ok_is terms.threshold.q w.start h.1 in absurd (omega arith)
       go (inr h) =
-          let mark = mark_at rs o.base terms.q in
-          group_covers accepts terms rs (exactly accepts Checkpoint 0 o.base mark) terms.q terms.q w.start (λ r k. (exact_is accepts Checkpoint 0 o.base mark r k).1) (groups.stood signer_of (exactly accepts Checkpoint 0 o.base mark) terms.n terms.q terms.q 0 (drop terms.q rs) w.start h.1)
+          let mark = mark_at rs o.base terms.threshold.q in
+          group_covers accepts terms rs (exactly accepts Checkpoint 0 o.base mark) terms.threshold.q terms.threshold.q w.start (λ r k. (exact_is accepts Checkpoint 0 o.base mark r k).1) (groups.stood signer_of (exactly accepts Checkpoint 0 o.base mark) terms.threshold.n terms.threshold.q terms.threshold.q 0 (drop terms.threshold.q rs) w.start h.1)
 
   pub accepted_at : (o : Opened) → Parts accepts terms rs o → (i : ℕ) → i < length rs → accepts (get_or rs i none).statement (get_or rs i none).seal ≡ true
   accepted_at o w i h =
-      let a = group_covers accepts terms rs (stable_fits accepts terms) terms.q 0 terms.q (λ r k. (stable_is accepts terms r k).1) w.stables in
+      let a = group_covers accepts terms rs (stable_fits accepts terms) terms.threshold.q 0 terms.threshold.q (λ r k. (stable_is accepts terms r k).1) w.stables in
       let b = marks_cover o w in
-      let c = (counted accepts terms rs (take terms.q rs) 32 (o.base + 1) w.start [] _ w.counted).covered in
-      covers accepts terms rs 0 terms.q w.end a (covers accepts terms rs terms.q w.start w.end b c) i (omega arith) (omega (arith, w.whole)) h
+      let c = (counted accepts terms rs (take terms.threshold.q rs) 32 (o.base + 1) w.start [] _ w.counted).covered in
+      covers accepts terms rs 0 terms.threshold.q w.end a (covers accepts terms rs terms.threshold.q w.start w.end b c) i (omega arith) (omega (arith, w.whole)) h
 
   -- the whole group of them
-  marks_whole : (o : Opened) (w : Parts accepts terms rs o) → 0 < o.base → Whole signer_of (exactly accepts Checkpoint 0 o.base o.mark) terms.n terms.q (checkpoint_group terms.q rs o)
+  marks_whole : (o : Opened) (w : Parts accepts terms rs o) → 0 < o.base → Whole signer_of (exactly accepts Checkpoint 0 o.base o.mark) terms.threshold.n terms.threshold.q (checkpoint_group terms.threshold.q rs o)
   marks_whole o w h =
       let e = marks_stood o w h in
-      let st = groups.stood signer_of (exactly accepts Checkpoint 0 o.base o.mark) terms.n terms.q terms.q 0 (drop terms.q rs) w.start e in
-      let there : take terms.q (drop terms.q rs) ≡ checkpoint_group terms.q rs o = sym (cond-false (eqb o.base 0) [] (take terms.q (drop terms.q rs)) (ne_eqb o.base 0 (λ z. omega arith))) in
-      subst (Whole signer_of (exactly accepts Checkpoint 0 o.base o.mark) terms.n terms.q) there (record {
-        long = length-take-le terms.q (drop terms.q rs) st.enough;
+      let st = groups.stood signer_of (exactly accepts Checkpoint 0 o.base o.mark) terms.threshold.n terms.threshold.q terms.threshold.q 0 (drop terms.threshold.q rs) w.start e in
+      let there : take terms.threshold.q (drop terms.threshold.q rs) ≡ checkpoint_group terms.threshold.q rs o = sym (cond-false (eqb o.base 0) [] (take terms.threshold.q (drop terms.threshold.q rs)) (ne_eqb o.base 0 (λ z. omega arith))) in
+      subst (Whole signer_of (exactly accepts Checkpoint 0 o.base o.mark) terms.threshold.n terms.threshold.q) there (record {
+        long = length-take-le terms.threshold.q (drop terms.threshold.q rs) st.enough;
         ascends = st.ascends;
-        counted = groups.counted signer_of (exactly accepts Checkpoint 0 o.base o.mark) terms.n terms.q terms.q (drop terms.q rs) w.start e;
+        counted = groups.counted signer_of (exactly accepts Checkpoint 0 o.base o.mark) terms.threshold.n terms.threshold.q terms.threshold.q (drop terms.threshold.q rs) w.start e;
         passes = st.passes;
       })
 
@@ -171,30 +171,30 @@ module _ (accepts : Statement → ℕ → Bool) (terms : Terms) (honest : ℕ �
   C s = get_or o.claims (s - o.base - 1) no_claim
 
   -- a group of which each honest signer issued its record
-  issued_group : (kind : Kind) (e s : ℕ) (d : DigestValue) (p p' : ℕ) → AllByRecursion Fair rs → Stood signer_of (exactly accepts kind e s d) terms.n terms.q p 0 (drop p rs) p'
-      → Backed terms.n terms.q honest (λ i. Issued (record { kind = kind; signer = i; epoch = e; number = s; held = 0; digest = d }))
+  issued_group : (kind : Kind) (e s : ℕ) (d : DigestValue) (p p' : ℕ) → AllByRecursion Fair rs → Stood signer_of (exactly accepts kind e s d) terms.threshold.n terms.threshold.q p 0 (drop p rs) p'
+      → Backed terms.threshold.n terms.threshold.q honest (λ i. Issued (record { kind = kind; signer = i; epoch = e; number = s; held = 0; digest = d }))
   issued_group kind e s d p p' fair st =
-      let ps : List Sealed = take terms.q (drop p rs) in
-      let both = all_both _ _ ps st.passes (All-take Fair terms.q (drop p rs) (All-drop Fair p rs fair)) in
-      quorum_at signer_of terms.n terms.q (λ i. honest i ≡ true → Issued (record { kind = kind; signer = i; epoch = e; number = s; held = 0; digest = d })) ps st.ascends (All-weaker _ _ (λ r f. one r f.0 f.1) ps both) (omega (arith, length-take-le terms.q (drop p rs) st.enough))
+      let ps : List Sealed = take terms.threshold.q (drop p rs) in
+      let both = all_both _ _ ps st.passes (All-take Fair terms.threshold.q (drop p rs) (All-drop Fair p rs fair)) in
+      quorum_at signer_of terms.threshold.n terms.threshold.q (λ i. honest i ≡ true → Issued (record { kind = kind; signer = i; epoch = e; number = s; held = 0; digest = d })) ps st.ascends (All-weaker _ _ (λ r f. one r f.0 f.1) ps both) (omega (arith, length-take-le terms.threshold.q (drop p rs) st.enough))
     where
       one : (r : Sealed) → exactly accepts kind e s d r ≡ true → Fair r → honest (signer_of r) ≡ true → Issued (record { kind = kind; signer = signer_of r; epoch = e; number = s; held = 0; digest = d })
       one r k f hon = let x = exact_is accepts kind e s d r k in subst Issued x.0 (f x.1 hon)
 
-  module _ (fair : AllByRecursion Fair rs) (w : Parts accepts terms rs o) (k : Counted accepts terms rs (take terms.q rs) 32 (o.base + 1) w.start [] (record { value = o.claims; next = w.end })) where
+  module _ (fair : AllByRecursion Fair rs) (w : Parts accepts terms rs o) (k : Counted accepts terms rs (take terms.threshold.q rs) 32 (o.base + 1) w.start [] (record { value = o.claims; next = w.end })) where
     long : length o.claims ≡ 32
     long = ap length k.is ∙ k.size
 
-    row : Row accepts terms rs (take terms.q rs) (o.base + 1) o.claims
-    row = subst (Row accepts terms rs (take terms.q rs) (o.base + 1)) (sym k.is) k.row
+    row : Row accepts terms rs (take terms.threshold.q rs) (o.base + 1) o.claims
+    row = subst (Row accepts terms rs (take terms.threshold.q rs) (o.base + 1)) (sym k.is) k.row
 
-    claim_at : (j : ℕ) → j < 32 → Claimed accepts terms rs (take terms.q rs) (o.base + 1 + j) (get_or o.claims j no_claim)
-    claim_at j h = row_at accepts terms rs (take terms.q rs) (o.base + 1) o.claims j row (omega (arith, long))
+    claim_at : (j : ℕ) → j < 32 → Claimed accepts terms rs (take terms.threshold.q rs) (o.base + 1 + j) (get_or o.claims j no_claim)
+    claim_at j h = row_at accepts terms rs (take terms.threshold.q rs) (o.base + 1) o.claims j row (omega (arith, long))
 
-    claim_of : (s : ℕ) → o.base < s → s ≤ o.base + 32 → Claimed accepts terms rs (take terms.q rs) s (C s)
+    claim_of : (s : ℕ) → o.base < s → s ≤ o.base + 32 → Claimed accepts terms rs (take terms.threshold.q rs) s (C s)
     claim_of s l u =
         let z : o.base + 1 + (s - o.base - 1) ≡ s = omega arith in
-        subst (λ t. Claimed accepts terms rs (take terms.q rs) t (C s)) z (claim_at (s - o.base - 1) (omega arith))
+        subst (λ t. Claimed accepts terms rs (take terms.threshold.q rs) t (C s)) z (claim_at (s - o.base - 1) (omega arith))
 
     -- past 32 numbers there is no claim
     past : (j : ℕ) → 32 ≤ j → get_or o.claims j no_claim ≡ no_claim
@@ -248,22 +248,22 @@ module _ (accepts : Statement → ℕ → Bool) (terms : Terms) (honest : ℕ �
             let a = and_parts (ltb o.base s) (leb s (top o)) h.0 in
             (ltb-true _ _ a.0, leb-true _ _ a.1, sym (some_is (digest_of o s) d h.1))
 
-    backed : (s : ℕ) → o.base < s → 1 ≤ highest_of o s → Backed terms.n terms.q honest (λ i. Issued (prepare_by i (highest_of o s) s (digest_of o s)))
+    backed : (s : ℕ) → o.base < s → 1 ≤ highest_of o s → Backed terms.threshold.n terms.threshold.q honest (λ i. Issued (prepare_by i (highest_of o s) s (digest_of o s)))
     backed s l h =
         let a = near (s - o.base - 1) h in
         let c = (claim_of s l (omega arith)).backed h in
         issued_group Prepare (highest_of o s) s (digest_of o s) c.0 c.1 fair c.2
 
-    marked : 0 < o.base → Backed terms.n terms.q honest (λ i. Issued (checkpoint_by i o.base o.mark))
+    marked : 0 < o.base → Backed terms.threshold.n terms.threshold.q honest (λ i. Issued (checkpoint_by i o.base o.mark))
     marked h =
-        issued_group Checkpoint 0 o.base o.mark terms.q w.start fair (groups.stood signer_of (exactly accepts Checkpoint 0 o.base o.mark) terms.n terms.q terms.q 0 (drop terms.q rs) w.start (marks_stood accepts terms rs o w h))
+        issued_group Checkpoint 0 o.base o.mark terms.threshold.q w.start fair (groups.stood signer_of (exactly accepts Checkpoint 0 o.base o.mark) terms.threshold.n terms.threshold.q terms.threshold.q 0 (drop terms.threshold.q rs) w.start (marks_stood accepts terms rs o w h))
 
-    said : (t : Sealed) → Has (take terms.q rs) t → honest (signer_of t) ≡ true → Said Issued terms.epoch (signer_of t) o
+    said : (t : Sealed) → Has (take terms.threshold.q rs) t → honest (signer_of t) ≡ true → Said Issued terms.epoch (signer_of t) o
     said t mem hon =
-        let fits = all-has (λ r. stable_fits accepts terms r ≡ true) (take terms.q rs) t w.stables.passes mem in
-        let f = all-has Fair (take terms.q rs) t (All-take Fair terms.q rs fair) mem in
+        let fits = all-has (λ r. stable_fits accepts terms r ≡ true) (take terms.threshold.q rs) t w.stables.passes mem in
+        let f = all-has Fair (take terms.threshold.q rs) t (All-take Fair terms.threshold.q rs fair) mem in
         let x = stable_is accepts terms t fits in
-        let low = all-has (λ r. r.statement.number ≤ largest (take terms.q rs)) (take terms.q rs) t (larger_covers 0 (take terms.q rs)) mem in
+        let low = all-has (λ r. r.statement.number ≤ largest (take terms.threshold.q rs)) (take terms.threshold.q rs) t (larger_covers 0 (take terms.threshold.q rs)) mem in
         let m_low : t.statement.number ≤ o.base = omega (arith, low, w.base_is) in
         record { m = t.statement.number; stable = subst Issued x.0 (f x.1 hon); low = m_low; held = λ s l u. held s l u m_low }
       where
@@ -271,7 +271,7 @@ module _ (accepts : Statement → ℕ → Bool) (terms : Terms) (honest : ℕ �
         held s l u low =
             let c = claim_of s l (omega arith) in
             let yes_asked : asked s t ≡ true = le-leb (s - 32) t.statement.number (omega arith) in
-            let a = all-has (Answered accepts terms rs s (settled (C s))) (take terms.q rs) t c.each mem yes_asked in
+            let a = all-has (Answered accepts terms rs s (settled (C s))) (take terms.threshold.q rs) t c.each mem yes_asked in
             let r : Sealed = get_or rs a.0 none in
             let is = held_is terms.epoch s (signer_of t) r.statement a.2 in
             let own : honest (signer_of r) ≡ true = ap (λ (z : Statement). honest z.signer) is ∙ hon in
@@ -287,7 +287,7 @@ module _ (accepts : Statement → ℕ → Bool) (terms : Terms) (honest : ℕ �
 
     sound : Sound terms honest Issued o
     sound = record {
-      signers = quorum_at signer_of terms.n terms.q (λ i. honest i ≡ true → Said Issued terms.epoch i o) (take terms.q rs) w.stables.ascends (All-weaker _ _ said (take terms.q rs) (all_has_itself (take terms.q rs))) (omega (arith, length-take-le terms.q rs w.stables.enough));
+      signers = quorum_at signer_of terms.threshold.n terms.threshold.q (λ i. honest i ≡ true → Said Issued terms.epoch i o) (take terms.threshold.q rs) w.stables.ascends (All-weaker _ _ said (take terms.threshold.q rs) (all_has_itself (take terms.threshold.q rs))) (omega (arith, length-take-le terms.threshold.q rs w.stables.enough));
       marked = marked;
       claim_below = below;
       claim_within = claimed_low;
@@ -303,7 +303,7 @@ module _ (accepts : Statement → ℕ → Bool) (terms : Terms) (honest : ℕ �
   pub sound_of : SealsHold accepts honest Issued rs → walked accepts terms rs ≡ Ok o → Sound terms honest Issued o
   sound_of fair e =
       let w = parts accepts terms rs o e in
-      sound fair w (counted accepts terms rs (take terms.q rs) 32 (o.base + 1) w.start [] _ w.counted)
+      sound fair w (counted accepts terms rs (take terms.threshold.q rs) 32 (o.base + 1) w.start [] _ w.counted)
 
 pub dossier_sound : DossierSound
 dossier_sound accepts terms honest issued rs o fair e = sound_of accepts terms honest (λ st. issued st ≡ true) rs o fair e
@@ -313,7 +313,7 @@ module _ (accepts : Statement → ℕ → Bool) (terms : Terms) (rs : List Seale
   pub admitted : (o : Opened) → walked accepts terms rs ≡ Ok o → Admitted accepts terms rs o
   admitted o e =
       let w = parts accepts terms rs o e in
-      let even = larger_aligned 0 (take terms.q rs) refl (All-weaker _ _ (stable_aligned accepts terms) (take terms.q rs) w.stables.passes) in
+      let even = larger_aligned 0 (take terms.threshold.q rs) refl (All-weaker _ _ (stable_aligned accepts terms) (take terms.threshold.q rs) w.stables.passes) in
       record {
         low = w.low;
         aligned = ap (λ m. m % 16) w.base_is ∙ even;

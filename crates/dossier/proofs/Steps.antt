@@ -56,7 +56,7 @@ stable_low accepts terms t h =
     let c = and_parts (eqb (st.number % 16) 0) _ b.1 in
     leb-true _ _ (and_parts (leb st.number 1000000000000) _ c.1).0
 
-pub stables_enough : (accepts : Statement → ℕ → Bool) (terms : Terms) (rs : List Sealed) (r : Result ℕ ℕ) (p : ℕ) → r ≡ grouped signer_of (stable_fits accepts terms) terms.n terms.q 0 0 rs → r ≡ Ok p → (terms.q ≤ length rs) × (largest (take terms.q rs) ≤ 1000000000000)
+pub stables_enough : (accepts : Statement → ℕ → Bool) (terms : Terms) (rs : List Sealed) (r : Result ℕ ℕ) (p : ℕ) → r ≡ grouped signer_of (stable_fits accepts terms) terms.threshold.n terms.threshold.q 0 0 rs → r ≡ Ok p → (terms.threshold.q ≤ length rs) × (largest (take terms.threshold.q rs) ≤ 1000000000000)
 stables_enough accepts terms rs r p e f =
-    let w = stood signer_of (stable_fits accepts terms) terms.n terms.q 0 0 rs p (sym e ∙ f) in
-    (w.enough, largest_below 1000000000000 0 (take terms.q rs) (omega arith) (All-weaker _ _ (stable_low accepts terms) (take terms.q rs) w.passes))
+    let w = stood signer_of (stable_fits accepts terms) terms.threshold.n terms.threshold.q 0 0 rs p (sym e ∙ f) in
+    (w.enough, largest_below 1000000000000 0 (take terms.threshold.q rs) (omega arith) (All-weaker _ _ (stable_low accepts terms) (take terms.threshold.q rs) w.passes))

@@ -27,11 +27,11 @@ within_onward len next after (Err i) f h k = h
 
 module _ (accepts : Statement → ℕ → Bool) (terms : Terms) (rs : List Sealed) where
   quorum_within : (allows : Sealed → Bool) (place : ℕ) → place ≤ length rs → Within (length rs) (λ p. p) (quorum_from accepts terms rs allows place)
-  quorum_within allows place h = go (grouped signer_of allows terms.n terms.q place 0 (drop place rs)) refl
+  quorum_within allows place h = go (grouped signer_of allows terms.threshold.n terms.threshold.q place 0 (drop place rs)) refl
     where
-      go : (r : Result ℕ ℕ) → grouped signer_of allows terms.n terms.q place 0 (drop place rs) ≡ r → Within (length rs) (λ p. p) r
-      go (Ok p) e = let s = stood signer_of allows terms.n terms.q place 0 (drop place rs) p e in omega (arith, s.after, s.enough, length-drop place rs)
-      go (Err i) e = let s = fell signer_of allows terms.n terms.q place 0 (drop place rs) i e in omega (arith, s.within, length-drop place rs)
+      go : (r : Result ℕ ℕ) → grouped signer_of allows terms.threshold.n terms.threshold.q place 0 (drop place rs) ≡ r → Within (length rs) (λ p. p) r
+      go (Ok p) e = let s = stood signer_of allows terms.threshold.n terms.threshold.q place 0 (drop place rs) p e in omega (arith, s.after, s.enough, length-drop place rs)
+      go (Err i) e = let s = fell signer_of allows terms.threshold.n terms.threshold.q place 0 (drop place rs) i e in omega (arith, s.within, length-drop place rs)
 
   helds_within : (s last j : ℕ) (c : Tally) (place : ℕ) (ts : List Sealed) → place ≤ length rs → Within (length rs) (λ (g : Found Tally). g.next) (helds_from accepts terms rs s last j c place ts)
   helds_within s last j c place [] h = h
@@ -66,8 +66,8 @@ module _ (accepts : Statement → ℕ → Bool) (terms : Terms) (rs : List Seale
   all_within : Within (length rs) (λ (o : Opened). 0) (walked accepts terms rs)
   all_within =
       within_onward (length rs) (λ p. p) (λ (o : Opened). 0) (quorum_from accepts terms rs (stable_fits accepts terms) 0) _ (quorum_within (stable_fits accepts terms) 0 (omega arith))
-      (λ p h. within_onward (length rs) (λ p. p) (λ (o : Opened). 0) (checkpoints accepts terms rs (largest (take terms.q rs)) p) _ (checkpoints_within (largest (take terms.q rs)) p h)
-      (λ start k. within_onward (length rs) (λ (w : Found (List Claim)). w.next) (λ (o : Opened). 0) (numbers accepts terms rs (take terms.q rs) 32 (largest (take terms.q rs) + 1) start []) _ (numbers_within (take terms.q rs) 32 (largest (take terms.q rs) + 1) start [] k)
+      (λ p h. within_onward (length rs) (λ p. p) (λ (o : Opened). 0) (checkpoints accepts terms rs (largest (take terms.threshold.q rs)) p) _ (checkpoints_within (largest (take terms.threshold.q rs)) p h)
+      (λ start k. within_onward (length rs) (λ (w : Found (List Claim)). w.next) (λ (o : Opened). 0) (numbers accepts terms rs (take terms.threshold.q rs) 32 (largest (take terms.threshold.q rs) + 1) start []) _ (numbers_within (take terms.threshold.q rs) 32 (largest (take terms.threshold.q rs) + 1) start [] k)
       (λ w l. cond_both {A = Result Opened ℕ} (ltb w.next (length rs)) _ _ (Within (length rs) (λ (o : Opened). 0)) (λ _. l) (λ _. omega arith))))
 
 pub walked_within : RefusedWithin

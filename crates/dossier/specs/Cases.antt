@@ -66,7 +66,7 @@ abbrev pub first_change : List Sealed
 first_change = stable 0 0 ∷ stable 1 0 ∷ stable 2 0 ∷ three_from 32 1
 
 abbrev pub judged : List Sealed → Result Opened ℕ
-judged rs = walked fives (record { n = 4; q = 3; epoch = 3 }) rs
+judged rs = walked fives (record { threshold = record { n = 4; q = 3 }; epoch = 3 }) rs
 
 -- base, mark, top and what is chosen for 16 to 20
 pub record Seen : Type 0 where

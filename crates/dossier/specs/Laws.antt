@@ -55,13 +55,13 @@ pub record Said (Issued : Statement → Type 0) (epoch i : ℕ) (o : Opened) : T
 
 pub record Sound (terms : Terms) (honest : ℕ → Bool) (Issued : Statement → Type 0) (o : Opened) : Type 0 where
   -- q different signers, each of which, if honest, said so
-  pub signers : Backed terms.n terms.q honest (λ i. Said Issued terms.epoch i o)
+  pub signers : Backed terms.threshold.n terms.threshold.q honest (λ i. Said Issued terms.epoch i o)
   -- q signers, where honest, issued checkpoints of one mark for the base
-  pub marked : 0 < o.base → Backed terms.n terms.q honest (λ i. Issued (checkpoint_by i o.base o.mark))
+  pub marked : 0 < o.base → Backed terms.threshold.n terms.threshold.q honest (λ i. Issued (checkpoint_by i o.base o.mark))
   -- a claim is of an epoch below the new one, is not above top, and q signers, where honest, prepared it
   pub claim_below : 1 ≤ terms.epoch → (s : ℕ) → highest_of o s < terms.epoch
   pub claim_within : (s : ℕ) → o.base < s → 1 ≤ highest_of o s → s ≤ top o
-  pub claim_backed : (s : ℕ) → o.base < s → 1 ≤ highest_of o s → Backed terms.n terms.q honest (λ i. Issued (prepare_by i (highest_of o s) s (digest_of o s)))
+  pub claim_backed : (s : ℕ) → o.base < s → 1 ≤ highest_of o s → Backed terms.threshold.n terms.threshold.q honest (λ i. Issued (prepare_by i (highest_of o s) s (digest_of o s)))
   -- top is the base or a number that is claimed, at most 32 above the base
   pub top_claimed : (top o ≡ o.base) ⊎ ((o.base < top o) × (1 ≤ highest_of o (top o)))
   pub top_near : top o ≤ o.base + 32
@@ -94,6 +94,6 @@ RefusedWithin = (accepts : Statement → ℕ → Bool) (terms : Terms) (rs : Lis
 pub record Admitted (accepts : Statement → ℕ → Bool) (terms : Terms) (rs : List Sealed) (o : Opened) : Type 0 where
   pub low : o.base ≤ 1000000000000
   pub aligned : o.base % 16 ≡ 0
-  pub marks : 0 < o.base → Whole signer_of (exactly accepts Checkpoint 0 o.base o.mark) terms.n terms.q (checkpoint_group terms.q rs o)
+  pub marks : 0 < o.base → Whole signer_of (exactly accepts Checkpoint 0 o.base o.mark) terms.threshold.n terms.threshold.q (checkpoint_group terms.threshold.q rs o)
   pub accepted : AllByRecursion (Genuine accepts) rs
   pub sound : (honest : ℕ → Bool) (issued : Statement → Bool) → SealsHold accepts honest (λ st. issued st ≡ true) rs → Sound terms honest (λ st. issued st ≡ true) o

@@ -81,7 +81,7 @@ module _ (accepts : Statement → ℕ → Bool) (terms : Terms) where
   module _ (rs : List Sealed) where
     -- the place after the q records from a place on, by ascending signers, that keep a rule
     abbrev pub quorum_from : (Sealed → Bool) → ℕ → Result ℕ ℕ
-    quorum_from allows place = grouped signer_of allows terms.n terms.q place 0 (drop place rs)
+    quorum_from allows place = grouped signer_of allows terms.threshold.n terms.threshold.q place 0 (drop place rs)
 
     -- the held statement of a signer for s at a place, after a tally: the next tally, or none where the record is at fault or missing.
     -- A clash counts against the last held statement, and its seal is tried after that
@@ -125,11 +125,11 @@ module _ (accepts : Statement → ℕ → Bool) (terms : Terms) where
 
     -- what follows the stable statements, which end at a place: nothing may come after it
     abbrev pub after_stables : ℕ → ℕ → Result Opened ℕ
-    after_stables base place = onward (checkpoints base place) (λ p. onward (numbers (take terms.q rs) 32 (base + 1) p []) (λ w.
+    after_stables base place = onward (checkpoints base place) (λ p. onward (numbers (take terms.threshold.q rs) 32 (base + 1) p []) (λ w.
         cond (nat_lt w.next (length rs)) (Err w.next) (Ok (record { base = base; mark = mark_at rs base place; claims = w.value }))))
 
     abbrev pub walked : Result Opened ℕ
-    walked = onward (quorum_from stable_fits 0) (λ p. after_stables (largest (take terms.q rs)) p)
+    walked = onward (quorum_from stable_fits 0) (λ p. after_stables (largest (take terms.threshold.q rs)) p)
 
 -- WHAT IS CHOSEN
 

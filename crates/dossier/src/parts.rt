@@ -1,29 +1,16 @@
 // What a dossier is judged by, and what an accepted one says.
-ghost use Rattle.std.specs.Prelude.{◌≡◌};
-
 use quorum::house::Threshold;
 use wire::records::DigestValue;
 
-// The largest number there is; no dossier with a base above it is accepted.
+// The largest number there is: none above it is proposed, proved or made stable, and no dossier with a base above
+// it is accepted.
 pub const LAST: u64 = 1_000_000_000_000;
 
-// The number of controllers, the size of a quorum and the new epoch.
+// What a count of signers is held against, and the new epoch.
 #[derive(Clone, Copy)]
 pub struct Terms {
-    pub n: u8,
-    pub q: usize,
+    pub threshold: Threshold,
     pub epoch: u32,
-}
-
-impl Terms {
-    pub(crate) fn threshold(&self) -> Threshold
-        ensures { result ≡ record { n = self.now.n; q = self.now.q } }
-    {
-        Threshold {
-            n: self.n,
-            q: self.q,
-        }
-    }
 }
 
 // The highest held epoch of a number and its digest; epoch 0 where nobody holds one. No Option

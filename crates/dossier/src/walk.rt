@@ -41,7 +41,7 @@ impl<C: SealChecker> Target<'_, C> {
             number: s,
             digest: claim.digest,
         };
-        let next = group(records, helds.next, self.terms.threshold(), &rule)?;
+        let next = group(records, helds.next, self.terms.threshold, &rule)?;
         Ok(Found { value: claim, next })
     }
 
@@ -94,16 +94,16 @@ impl<C: SealChecker> Target<'_, C> {
             number: base,
             digest: mark,
         };
-        let next = group(records, place, self.terms.threshold(), &rule)?;
+        let next = group(records, place, self.terms.threshold, &rule)?;
         Ok(Found { value: mark, next })
     }
 
     // What follows the stable statements, which end at a place.
     fn after_stables(&self, records: &[Sealed], place: usize) -> Result<Opened, usize>
-        requires { (self.now.terms.q ≤ length records.now) × (largest (take self.now.terms.q records.now) ≤ 1000000000000) }
-        ensures { result ≡ after_stables (C.accepts self.now.checker.now) self.now.terms records.now (largest (take self.now.terms.q records.now)) place }
+        requires { (self.now.terms.threshold.q ≤ length records.now) × (largest (take self.now.terms.threshold.q records.now) ≤ 1000000000000) }
+        ensures { result ≡ after_stables (C.accepts self.now.checker.now) self.now.terms records.now (largest (take self.now.terms.threshold.q records.now)) place }
     {
-        let stables = &records[..self.terms.q];
+        let stables = &records[..self.terms.threshold.q];
         let base = base_of(stables);
         let mark = self.marked(records, base, place)?;
         let span = self.all_numbers(records, stables, base, mark.next)?;
@@ -124,7 +124,7 @@ impl<C: SealChecker> Target<'_, C> {
         ensures exact { result ≡ walked (C.accepts self.now.checker.now) self.now.terms records.now }
         ensures judged { MatchResult result (Admitted (C.accepts self.now.checker.now) self.now.terms records.now) (λ i. i ≤ length records.now) }
     {
-        let place = group(records, 0, self.terms.threshold(), self)?;
+        let place = group(records, 0, self.terms.threshold, self)?;
         self.after_stables(records, place)
     }
 }

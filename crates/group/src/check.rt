@@ -43,7 +43,8 @@ pub fn group<T: Signed, R: Rule<T>>(
     Ok(from + threshold.q)
 }
 
-// The index of the first record at fault, missing or surplus in a list that is one group.
+// The index of the first record at fault, missing or surplus in a list that is one group. A find: whether that is
+// an error, the caller says.
 pub fn first_fault<T: Signed, R: Rule<T>>(
     list: &[T],
     threshold: Threshold,

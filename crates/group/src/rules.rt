@@ -6,6 +6,7 @@ use seal::checker::SealChecker;
 use wire::kinds::Kind;
 use wire::records::{DigestValue, Sealed};
 
+// A trait, and no closure: the check answers a function of the rule, and a closure's bound gives a relation.
 pub trait Rule<T> {
     ghost allows: { Self → T → Bool };
 

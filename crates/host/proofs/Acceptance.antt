@@ -54,11 +54,11 @@ module _ (accepts : Statement → ℕ → Bool) (terms : Terms) (digests : ℕ �
 
   -- a quorum that stands alone stands wherever it begins
   quorum_on : (allows : Sealed → Bool) (place : ℕ) (xs ys : List Sealed) → Quorum terms allows xs
-      → grouped signer_of allows terms.n terms.q place 0 (xs ++ ys) ≡ Ok (place + terms.q)
+      → grouped signer_of allows terms.threshold.n terms.threshold.q place 0 (xs ++ ys) ≡ Ok (place + terms.threshold.q)
   quorum_on allows place xs ys w =
-      subst (λ m. grouped signer_of allows terms.n m place 0 (xs ++ ys) ≡ Ok (place + m)) w.long
-      (grouped_on signer_of allows terms.n 0 terms.q place 0 xs ys
-      (subst (λ m. grouped signer_of allows terms.n m 0 0 xs ≡ Ok terms.q) (sym w.long) w.stands))
+      subst (λ m. grouped signer_of allows terms.threshold.n m place 0 (xs ++ ys) ≡ Ok (place + m)) w.long
+      (grouped_on signer_of allows terms.threshold.n 0 terms.threshold.q place 0 xs ys
+      (subst (λ m. grouped signer_of allows terms.threshold.n m 0 0 xs ≡ Ok terms.threshold.q) (sym w.long) w.stands))
 
   -- a tally is the claim of a parting, without a clash
   pub record Stands (s : ℕ) (best : List Sealed) (c : Tally) : Type 0 where
@@ -211,12 +211,12 @@ module _ (accepts : Statement → ℕ → Bool) (terms : Terms) (digests : ℕ �
         let above : 0 < g.value.claim.epoch = omega (arith, w.stands.epoch) in
         let left : drop end rs ≡ backed ++ post =
         ap (drop end) (is ∙ sym (append_assoc pre hs (backed ++ post))) ∙ drop_at (pre ++ hs) (backed ++ post) end (omega (arith, length-append pre hs)) in
-        let stood : quorum_from accepts terms rs (exactly accepts Prepare g.value.claim.epoch s g.value.claim.digest) g.next ≡ Ok (end + terms.q) =
-        (λ i. grouped signer_of (exactly accepts Prepare (w.stands.epoch i) s (w.stands.digest i)) terms.n terms.q (w.next i) 0 (drop (w.next i) rs))
-        ∙ ap (grouped signer_of (exactly accepts Prepare (claimed_epoch s best) s (claim_in s best).digest) terms.n terms.q end 0) left
+        let stood : quorum_from accepts terms rs (exactly accepts Prepare g.value.claim.epoch s g.value.claim.digest) g.next ≡ Ok (end + terms.threshold.q) =
+        (λ i. grouped signer_of (exactly accepts Prepare (w.stands.epoch i) s (w.stands.digest i)) terms.threshold.n terms.threshold.q (w.next i) 0 (drop (w.next i) rs))
+        ∙ ap (grouped signer_of (exactly accepts Prepare (claimed_epoch s best) s (claim_in s best).digest) terms.threshold.n terms.threshold.q end 0) left
         ∙ quorum_on _ end backed post quorum in
         record {
-          value = record { value = g.value.claim; next = end + terms.q };
+          value = record { value = g.value.claim; next = end + terms.threshold.q };
           is = ap (λ x. onward x (after_helds s)) w.is ∙ cond-false _ _ _ (ne_eqb g.value.claim.epoch 0 (λ e. omega arith))
               ∙ ap (λ x. onward x (λ p. Ok (record { value = g.value.claim; next = p }))) stood;
           next = omega (arith, length-append hs backed, quorum.long);
@@ -263,12 +263,12 @@ module _ (accepts : Statement → ℕ → Bool) (terms : Terms) (digests : ℕ �
   numbers_low ps h k low is-k = cond-true _ _ _ (le-leb h 1000000000000 low) ∙ ap (λ n. flat_map (at_number ps) (range_with_len (h + 1) n)) (sym is-k)
 
   -- the checkpoints of the base, from the place q on
-  checkpoints_on : (ps : List (List Sealed)) (rs front post : List Sealed) → AllByRecursion T ps → length front ≡ terms.q → rs ≡ front ++ (checkpoints_in (highest stable_in ps) ++ post)
-      → checkpoints accepts terms rs (base_in ps) terms.q ≡ Ok (terms.q + length (checkpoints_in (highest stable_in ps)))
+  checkpoints_on : (ps : List (List Sealed)) (rs front post : List Sealed) → AllByRecursion T ps → length front ≡ terms.threshold.q → rs ≡ front ++ (checkpoints_in (highest stable_in ps) ++ post)
+      → checkpoints accepts terms rs (base_in ps) terms.threshold.q ≡ Ok (terms.threshold.q + length (checkpoints_in (highest stable_in ps)))
   checkpoints_on ps rs front post all long is =
       let best = highest stable_in ps in
       let cks = checkpoints_in best in
-      let left : drop terms.q rs ≡ cks ++ post = ap (drop terms.q) is ∙ drop_at front (cks ++ post) terms.q long in
+      let left : drop terms.threshold.q rs ≡ cks ++ post = ap (drop terms.threshold.q) is ∙ drop_at front (cks ++ post) terms.threshold.q long in
       elim (highest_or_none stable_in [] ps (inl refl)) [
         | inl nobody ↦
             cond-true _ _ _ (eq-eqb (base_in ps) 0 (ap stable_in nobody)) ∙ ap Ok (omega (arith, ap (λ p. length (checkpoints_in p)) nobody))
@@ -276,14 +276,14 @@ module _ (accepts : Statement → ℕ → Bool) (terms : Terms) (digests : ℕ �
             let quorum = highest_keeps stable_in (λ p. 0 < stable_in p → Quorum terms (exactly accepts Checkpoint 0 (stable_in p) (first_of (checkpoints_in p)).digest) (checkpoints_in p)) [] ps
             (λ z. absurd (omega arith)) (All-weaker _ _ (λ p t. t.checkpoints) ps all) some in
             let above : eqb (base_in ps) 0 ≡ false = ne_eqb (base_in ps) 0 (λ e. omega arith) in
-            let same_place : terms.q + 0 ≡ terms.q = omega arith in
-            let mark : mark_at rs (base_in ps) terms.q ≡ (first_of (cks ++ post)).digest =
+            let same_place : terms.threshold.q + 0 ≡ terms.threshold.q = omega arith in
+            let mark : mark_at rs (base_in ps) terms.threshold.q ≡ (first_of (cks ++ post)).digest =
             cond-false _ _ _ above ∙ ap (λ n. (get_or rs n none).statement.digest) (sym same_place)
-            ∙ ap (λ r. r.statement.digest) (sym (get_or-drop terms.q rs 0 none)) ∙ ap (λ l. (first_of l).digest) left in
+            ∙ ap (λ r. r.statement.digest) (sym (get_or-drop terms.threshold.q rs 0 none)) ∙ ap (λ l. (first_of l).digest) left in
             cond-false _ _ _ above
-            ∙ (λ i. grouped signer_of (exactly accepts Checkpoint 0 (base_in ps) (mark i)) terms.n terms.q terms.q 0 (left i))
-            ∙ grouped_marked (λ d. exactly accepts Checkpoint 0 (base_in ps) d) terms.n terms.q terms.q terms.q cks post quorum.long quorum.stands
-            ∙ ap (λ n. Ok (terms.q + n)) (sym quorum.long)
+            ∙ (λ i. grouped signer_of (exactly accepts Checkpoint 0 (base_in ps) (mark i)) terms.threshold.n terms.threshold.q terms.threshold.q 0 (left i))
+            ∙ grouped_marked (λ d. exactly accepts Checkpoint 0 (base_in ps) d) terms.threshold.n terms.threshold.q terms.threshold.q terms.threshold.q cks post quorum.long quorum.stands
+            ∙ ap (λ n. Ok (terms.threshold.q + n)) (sym quorum.long)
       ]
 
   -- what is said after the checkpoints
@@ -295,7 +295,7 @@ module _ (accepts : Statement → ℕ → Bool) (terms : Terms) (digests : ℕ �
       → (o : Opened) × (walked accepts terms (assembled ps) ≡ Ok o) × (o.base ≡ base_in ps)
   accepted_by at_none k is-k ps quorum all =
       let rs = assembled ps in
-      let q = terms.q in
+      let q = terms.threshold.q in
       let h = base_in ps in
       let front = flat_map (one_at 0) ps in
       let best = highest stable_in ps in

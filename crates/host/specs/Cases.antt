@@ -72,7 +72,7 @@ pub record Cases : Type 0 where
 -- THE PREMISES OF ACCEPTANCE
 
 abbrev pub in_epoch_3 : Terms
-in_epoch_3 = record { n = 4; q = 3; epoch = 3 }
+in_epoch_3 = record { threshold = record { n = 4; q = 3 }; epoch = 3 }
 
 -- what was certified: 77 in epoch 2, and in epoch 1 50 at 17 and else 90
 abbrev pub certified : ℕ → ℕ → DigestValue

@@ -16,8 +16,8 @@ use Rattle.wire.specs.declared.kinds.Kind.TheVariants.{Prepare, Checkpoint}
 
 -- exactly q records, by ascending signers below n, that keep a rule
 pub record Quorum (terms : Terms) (allows : Sealed → Bool) (rs : List Sealed) : Type 0 where
-  pub long : length rs ≡ terms.q
-  pub stands : grouped signer_of allows terms.n terms.q 0 0 rs ≡ Ok terms.q
+  pub long : length rs ≡ terms.threshold.q
+  pub stands : grouped signer_of allows terms.threshold.n terms.threshold.q 0 0 rs ≡ Ok terms.threshold.q
 
 -- digests: the one digest that an epoch can have certified at a number
 module _ (accepts : Statement → ℕ → Bool) (terms : Terms) (digests : ℕ → ℕ → DigestValue) where

@@ -239,7 +239,7 @@ module _ {X : Type 0} (value : List ℕ → DigestValue) (next : X → ℕ → �
   -- ENTER
 
   abbrev terms : ℕ → Terms
-  terms epoch = record { n = n; q = q; epoch = epoch }
+  terms epoch = record { threshold = record { n = n; q = q }; epoch = epoch }
 
   module _ (c : Core) (x : X) (new : Sealed) (records : List Sealed) (o : Opened) where
     -- the table with the base stable, what is chosen for its numbers, and the table then
@@ -467,7 +467,7 @@ module _ {X : Type 0} (value : List ℕ → DigestValue) (next : X → ℕ → �
       st = new.statement
 
       same_terms : terms_of k.core new.statement ≡ terms new.statement.epoch
-      same_terms = λ i. record { n = f.size i; q = (ap quorum f.size ∙ sym q-is) i; epoch = new.statement.epoch }
+      same_terms = λ i. record { threshold = record { n = f.size i; q = (ap quorum f.size ∙ sym q-is) i }; epoch = new.statement.epoch }
 
       -- the epoch is later than one that was begun
       later : stale k.core.view new.statement.epoch ≡ false → 1 ≤ new.statement.epoch

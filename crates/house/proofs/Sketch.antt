@@ -29,7 +29,7 @@ pub record Seen (n q : ℕ) (honest : ℕ → Bool) (Issued : Statement → Type
   pub target : ℕ
   pub begun : 1 ≤ target
   pub o : Opened
-  pub sound : Sound (record { n = n; q = q; epoch = target }) honest Issued o
+  pub sound : Sound (record { threshold = record { n = n; q = q }; epoch = target }) honest Issued o
 
 -- an epoch that is not later than the present one, and earlier while that is changing
 abbrev pub Old : Sketch → ℕ → Type 0

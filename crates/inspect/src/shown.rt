@@ -39,6 +39,7 @@ impl<'a> fmt::Display for Fields<'a> {
     }
 }
 
+// Lines are printed as they are made, each by `Display` of its parts.
 pub(crate) fn show_statement(rt: &HostRuntime, line: u64, sealed: &Sealed) -> anyhow::Result<()> {
     let st = &sealed.statement;
     let kind = st.kind;

@@ -34,7 +34,7 @@ no_set_of n st =
     not (st.signer == primary n st.epoch) || (not (member leaders st.signer) || not (within n leaders))
 
 abbrev pub terms_of : Core → Statement → Terms
-terms_of c st = record { n = size c; q = enough c; epoch = st.epoch }
+terms_of c st = record { threshold = record { n = size c; q = enough c }; epoch = st.epoch }
 
 module _ (accepts : Statement → ℕ → Bool) where
   abbrev pub opened : Core → Sealed → List Sealed → Result Opened ℕ

@@ -7,7 +7,8 @@ use window::windows::Windows;
 #[derive(Clone, Copy)]
 pub struct View {
     pub epoch: u32,
-    // the epoch is given up or not yet begun: nothing is proposed, prepared or committed
+    // the epoch is given up or not yet begun: nothing is proposed, prepared or committed. A flag, since all
+    // else holds either way
     pub changing: bool,
     // the leader set: bit i for controller i, as a statement's digest holds it
     pub leaders: u64,

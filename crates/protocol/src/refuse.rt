@@ -18,7 +18,7 @@ use crate::records::{Core, View};
 use crate::refusal::Refusal;
 use crate::requests::batch_of;
 use digest::interface::Digest;
-use dossier::parts::{Opened, Terms};
+use dossier::parts::{LAST, Opened, Terms};
 use dossier::target::Target;
 use group::check::commits_fault;
 use quorum::house::House;
@@ -29,9 +29,6 @@ use wire::records::{Batch, DigestValue, Request, Sealed, Statement};
 
 // How many places an outbox has at least.
 const ROOM: usize = 400;
-
-// No number above this is proposed, proved or made stable.
-const LIMIT: u64 = 1_000_000_000_000;
 
 // The first check of every call.
 fn check_room(outbox: &[Sealed]) -> Result<(), Refusal>
@@ -143,7 +140,7 @@ impl Core {
         ensures { MatchResult result (λ p. (not_offered self.now s ≡ false) × (p.now ≡ place_at self.now.table s)) (λ e. (not_offered self.now s ≡ true) × (e ≡ Refusal.Number)) }
     {
         let place = self.table.place(s).ok_or(Refusal::Number)?;
-        if s <= self.delivered || s < self.view.first || self.view.is_above_last(s) || s > LIMIT {
+        if s <= self.delivered || s < self.view.first || self.view.is_above_last(s) || s > LAST {
             return Err(Refusal::Number);
         }
         Ok(place)
@@ -187,7 +184,7 @@ impl Core {
         ensures { MatchResult result (λ p. (not_voted self.now st.now ≡ false) × (p.now ≡ place_at self.now.table st.now.number)) (λ e. (not_voted self.now st.now ≡ true) × (e ≡ Refusal.Number)) }
     {
         let place = self.table.place(st.number).ok_or(Refusal::Number)?;
-        if st.kind == Kind::Checkpoint && (st.number > LIMIT || st.number % 16 != 0) {
+        if st.kind == Kind::Checkpoint && (st.number > LAST || st.number % 16 != 0) {
             return Err(Refusal::Number);
         }
         Ok(place)
@@ -263,7 +260,7 @@ impl Core {
         ensures { result ≡ ok_unless (stored requests.now) (prove_refusal (C.accepts checker.now) (D.value digest.now) self.now outbox.now s requests.now commits.now) }
     {
         check_room(outbox)?;
-        if s.checked_sub(1) != Some(self.delivered) || s > LIMIT {
+        if s.checked_sub(1) != Some(self.delivered) || s > LAST {
             return Err(Refusal::Number);
         }
         if let Some(i) = commits_fault(commits, self.house.threshold(), s, checker) {
@@ -310,8 +307,7 @@ impl Core {
         let target = Target {
             checker,
             terms: Terms {
-                n: self.house.n(),
-                q: self.house.quorum(),
+                threshold: self.house.threshold(),
                 epoch: new.statement.epoch,
             },
         };

@@ -85,7 +85,8 @@ impl Ballots {
             .is_some_and(|ballot| ballot.is_some())
     }
 
-    // A controller's vote; there is no controller from 16 on.
+    // A controller's vote; there is no controller from 16 on. Signer and ballot are key and value, as of a map,
+    // so they stay two parameters here and wherever a vote is kept.
     pub fn put(&mut self, signer: u8, ballot: Ballot)
         ensures { self.new ≡ with_ballot self.old signer ballot }
     {

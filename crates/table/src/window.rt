@@ -37,7 +37,7 @@ impl Table {
         self.index(number).map(|i| &self.places[i])
     }
 
-    // Changes the place of a number, if it has one.
+    // Changes the place of a number, if it has one. The five that follow say what is changed, each in its contract.
     fn change<F: FnOnce(&mut Place)>(&mut self, number: u64, change: F)
         requires { F.IsAlwaysCallable change }
         ensures { (p : Place) × (in_window self.old number ≡ true → FnOnceReturnsAtMut F.FnOnce change (place_at self.old number) tt p) × (self.new ≡ with_place self.old number p) }

@@ -11,7 +11,8 @@ pub struct Book {
 }
 
 impl Book {
-    // What a client has, if there is such a client.
+    // What a client has, if there is such a client. A look-up of one line, as the next and others: what each looks
+    // into is its record's own.
     pub(crate) fn account(&self, client: u8) -> Option<u32>
         ensures { result ≡ read_account self.now client }
     {

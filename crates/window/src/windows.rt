@@ -21,7 +21,8 @@ impl Windows {
         }
     }
 
-    // The window of a client, if there is such a client.
+    // The window of a client, if there is such a client. The library's look-up in one line, into this record's
+    // own windows.
     pub fn window(&self, client: u8) -> Option<Window>
         ensures { result ≡ window_at self.now client }
     {

@@ -5,7 +5,8 @@ ghost use Rattle.wire.specs.Texts.{fault_text};
 use std::fmt;
 
 // The place of the byte at which bytes are no frame: 2 the version, 3 the kind, 4 the count, 0 the
-// length, else the first byte that is absent.
+// length, else the first byte that is absent. A number and no enum: any byte may be the absent one, and hosts are told the
+// byte's place.
 #[derive(Clone, Copy, PartialEq, Eq, Debug)]
 pub struct FrameFault {
     pub place: usize,

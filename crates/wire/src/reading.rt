@@ -43,7 +43,7 @@ fn alone<T: Drop>(value: T, left: &[u8]) -> Result<T, FrameFault>
     Ok(value)
 }
 
-// The fields after the kind byte, and the seal.
+// By the byte of the kind, the fields after it, and the seal.
 fn sealed_at(kind: u8, fields: &[u8; 33]) -> Sealed
     ensures { result ≡ sealed_at kind fields.now }
 {

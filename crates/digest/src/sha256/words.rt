@@ -38,6 +38,7 @@ pub(crate) fn small_sigma1(x: u32) -> u32
     x.rotate_right(17) ^ x.rotate_right(19) ^ (x >> 10)
 }
 
+// Wire reads its numbers alike, and keeps that to itself: in public it could ask nothing of the place.
 // The big-endian word in the four bytes of `bytes` from `i` on.
 pub(crate) fn word_at(bytes: &[u8; 64], i: usize) -> u32
     requires { i + 4 ≤ 64 }
