@@ -6,21 +6,25 @@ ghost use Rattle.window.specs.Laws.{Delivers, DeliveryJoins};
 
 use application::interface::Application;
 
-pub fn cases_hold()
+pub fn cases_hold() -> u8
     ensures window { WindowCase }
     ensures delivery { DeliveryCase }
-{}
+{
+    0
+}
 
 // Of one window: a mark adds its timestamp to those seen, and what is seen is what was ever marked.
-pub fn windows_hold()
+pub fn windows_hold() -> u8
     ensures adds { MarkAdds }
     ensures unseen { FreeUnseen }
     ensures unchanged { ElseUnchanged }
     ensures history { SeenMarked }
-{}
+{
+    0
+}
 
 // Of the requests that are applied: none twice, each of those given, and each in range.
-pub fn served_hold()
+pub fn served_hold() -> u8
     ensures full { NewFull }
     ensures stays { StaysFull }
     ensures once { ServedOnce }
@@ -29,10 +33,14 @@ pub fn served_hold()
     ensures grows { SeenGrows }
     ensures seen { SeenServed }
     ensures joins { ServedJoins }
-{}
+{
+    0
+}
 
 // Of deliveries to any application: the served requests make the state, and batches may be joined.
-pub fn deliveries_hold<P: Application>(_app: &P)
+pub fn deliveries_hold<P: Application>(_app: &P) -> u8
     ensures delivers { Delivers P.next }
     ensures joins { DeliveryJoins P.next }
-{}
+{
+    0
+}
