@@ -11,7 +11,8 @@ const WIDE_OPEN: u16 = 1000;
 
 impl Book {
     // Opens a valve; the client pays the change to the plant. What the accounts add up to is a premise of these
-    // three, and the invariant of the valves: there it is restored once, after the whole order.
+    // three, and the invariant of the valves: there it is restored once, after the whole order. By index: after a
+    // `get_mut` of an array in a field nothing is known of its elements.
     fn open(&mut self, client: u8, valve: u8, opening: u16) -> Result<(), Reject>
         requires { sum self.old.accounts + self.old.plant ≤ 320000 }
         ensures value { answer_code result ≡ code_of_open self.old client valve opening }
