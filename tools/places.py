@@ -4,6 +4,7 @@
     python3 tools/places.py [COMMIT] [-v]        -v prints each place
 """
 import collections
+import itertools
 import os
 import re
 import subprocess
@@ -103,25 +104,22 @@ def twins():
     return [", ".join(g) for g in groups.values() if len(g) > 1]
 
 
-def premises():
-    seen = collections.Counter()
-    for n, name, head, body in FNS:
-        for c in re.findall(r"requires(?: \w+)? \{ (.*) \}", head):
-            seen[c.replace(".old", ".now")] += 1
-    return [f"{k} ({v} functions)" for k, v in seen.items() if v >= 3]
+def often(told):
+    """What `told` says of the head of three functions or more."""
+    seen = collections.Counter(t for n, name, head, body in FNS for t in told(head))
+    return [f"{t} ({v} functions)" for t, v in seen.items() if v >= 3]
 
 
-def pairs():
-    seen = collections.Counter()
-    for n, name, head, body in FNS:
-        sig = head.split("\n    requires")[0].split("\n    ensures")[0]
-        m = re.search(r"\((.*)\)", sig, re.S)
-        ps = re.findall(r"(\w+): ([^,()]+(?:\([^()]*\))?)", m.group(1) if m else "")
-        ps = sorted({(a, " ".join(b.split())) for a, b in ps if a not in ("rt", "heap", "f")})
-        for i in range(len(ps)):
-            for j in range(i + 1, len(ps)):
-                seen[ps[i] + ps[j]] += 1
-    return [f"{a}: {b}, {c}: {d} ({v} functions)" for (a, b, c, d), v in seen.items() if v >= 3]
+def premises(head):
+    return [c.replace(".old", ".now") for c in re.findall(r"requires(?: \w+)? \{ (.*) \}", head)]
+
+
+def pairs(head):
+    sig = head.split("\n    requires")[0].split("\n    ensures")[0]
+    m = re.search(r"\((.*)\)", sig, re.S)
+    ps = re.findall(r"(\w+): ([^,()]+(?:\([^()]*\))?)", m.group(1) if m else "")
+    ps = sorted({f"{a}: {' '.join(b.split())}" for a, b in ps if a not in ("rt", "heap", "f")})
+    return [f"{a}, {b}" for a, b in itertools.combinations(ps, 2)]
 
 
 print("at", COMMIT or "the working tree")
@@ -145,8 +143,8 @@ show("text by a function", grep(r"-> &'static str"))
 show("functions that take a value apart to print it", grep(r"fn show_\w+"))
 show("zeros by a function", grep(r"fn (new|none)\(\) -> (Account|Progress)"))
 print("5 what travels together")
-show("a premise that three functions or more have", premises())
-show("two parameters that three functions or more have", pairs())
+show("a premise that three functions or more have", often(premises))
+show("two parameters that three functions or more have", often(pairs))
 print("6 buffers with a length beside")
 show("count or length beside an array", grep(r"pub (count|length): \w+,\s*pub \w+: \[[^\]]+\]"))
 print("7 switches on which step to run")

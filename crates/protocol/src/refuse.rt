@@ -1,13 +1,11 @@
 // What each call is refused for: a check for each reason, in their order.
 ghost use Rattle.std.specs.Prelude.{◌≡◌, ◌<◌, ◌+◌, not, ◌||◌, ◌==◌, nat_le, true, false, cond, MatchResult};
-ghost use Rattle.wire.specs.Kinds.{same_kind};
 ghost use Rattle.wire.specs.Frames.{stored};
-ghost use Rattle.table.specs.Ballots.{has_ballot};
-ghost use Rattle.table.specs.Window.{place_at, row_at};
+ghost use Rattle.table.specs.Window.{place_at};
 ghost use Rattle.protocol.specs.Refusals.{ok_unless, Refuses};
 ghost use Rattle.protocol.specs.Call.{cramped};
 ghost use Rattle.protocol.specs.Offer.{above_last, not_offered, offer_refusal};
-ghost use Rattle.protocol.specs.Vote.{of_epoch, no_vote_kind, not_voted, vote_refusal};
+ghost use Rattle.protocol.specs.Vote.{of_epoch, no_vote_kind, not_voted, vote_stands, vote_refusal};
 ghost use Rattle.protocol.specs.Supply.{supply_refusal};
 ghost use Rattle.protocol.specs.Prove.{proved_digest, prove_refusal};
 ghost use Rattle.protocol.specs.Enter.{stale, no_set_of, new_refusal, Judged};
@@ -190,9 +188,10 @@ impl Core {
         Ok(place)
     }
 
-    // Whether this signer's vote of this kind stands at a place.
+    // Whether this signer's vote of this kind stands; the place is that of its number.
     fn vote_stands(&self, place: &Place, st: &Statement) -> bool
-        ensures { result ≡ cond (same_kind st.now.kind Kind.Prepare) (has_ballot place.now.prepares st.now.signer) (cond (same_kind st.now.kind Kind.Commit) (has_ballot place.now.commits st.now.signer) (has_ballot (row_at self.now.table st.now.number) st.now.signer)) }
+        requires { place.now ≡ place_at self.now.table st.now.number }
+        ensures { result ≡ vote_stands self.now.table st.now }
     {
         match st.kind {
             Kind::Prepare => place.prepares.has(st.signer),
