@@ -14,7 +14,7 @@ ghost use Rattle.protocol.specs.Change.{last_epoch, undelivered, give_up_refusal
 use crate::leaders::{is_member, is_within, primary_of};
 use crate::records::{Core, View};
 use crate::refusal::Refusal;
-use crate::requests::batch_of;
+use crate::requests::{batch_of, check_batch, stored};
 use digest::interface::Digest;
 use dossier::parts::{LAST, Opened, Terms};
 use dossier::target::Target;
@@ -168,13 +168,13 @@ impl Core {
         if !self.view.owns(&self.house, st.number, st.signer) {
             return Err(Refusal::Authority);
         }
-        let batch = batch_of(digest, &st.digest, requests)?;
+        check_batch(digest, &st.digest, requests)?;
         check_seal(checker, proposal)?;
         // where the first bad one stands is no error until the call makes it one, here and in `check_prove`
         if let Some(i) = self.first_bad(checker, digest, st.number, requests) {
             return Err(Refusal::Request(i));
         }
-        Ok(batch)
+        stored(requests)
     }
 
     // The place that a vote is for; a checkpoint's number is one of a checkpoint.

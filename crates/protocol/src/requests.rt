@@ -1,6 +1,7 @@
 // Whether a batch may be proposed: its digest, and each of its requests.
-ghost use Rattle.std.specs.Prelude.{◌≡◌, ◌+◌, true, false, MatchResult};
+ghost use Rattle.std.specs.Prelude.{◌≡◌, ◌+◌, ◌<◌, ◌≤◌, length, true, false, MatchResult};
 ghost use Rattle.wire.specs.Frames.{stored};
+ghost use Rattle.protocol.specs.Refusals.{Refuses};
 ghost use Rattle.protocol.specs.Offer.{no_batch_of, same_request, has_request, in_batch, known_from, bad_request, first_bad};
 
 use crate::records::Core;
@@ -11,8 +12,32 @@ use seal::checker::SealChecker;
 use table::records::Place;
 use wire::records::{Batch, DigestValue, Request};
 
-// The batch of a digest, if these requests are it.
+// Whether requests are the batch of a digest.
 #[tactic(auto, unfolding(wire::specs::Values::same_digest))]
+pub(crate) fn check_batch<D: Digest>(
+    digest: &D,
+    wanted: &DigestValue,
+    requests: &[Request],
+) -> Result<(), Refusal>
+    ensures { Refuses (no_batch_of (D.value digest.now) wanted.now requests.now) Refusal.Batch result }
+{
+    let d = batch_digest(digest, requests).map_err(|_| Refusal::Batch)?;
+    if d != *wanted || (requests.len() > 0 && d == DigestValue::from(0)) {
+        return Err(Refusal::Batch);
+    }
+    Ok(())
+}
+
+// Requests as a batch; more than 16 are none. Made last by whoever asks, since it is a copy, and what is refused
+// needs none.
+pub(crate) fn stored(requests: &[Request]) -> Result<Batch, Refusal>
+    ensures { MatchResult result (λ b. (length requests.now ≤ 16) × (b ≡ stored requests.now)) (λ e. (16 < length requests.now) × (e ≡ Refusal.Batch)) }
+{
+    let batch = Batch::from_slice(requests).map_err(|_| Refusal::Batch)?;
+    Ok(batch)
+}
+
+// The batch of a digest, if these requests are it.
 pub(crate) fn batch_of<D: Digest>(
     digest: &D,
     wanted: &DigestValue,
@@ -20,12 +45,8 @@ pub(crate) fn batch_of<D: Digest>(
 ) -> Result<Batch, Refusal>
     ensures { MatchResult result (λ b. (no_batch_of (D.value digest.now) wanted.now requests.now ≡ false) × (b ≡ stored requests.now)) (λ e. (no_batch_of (D.value digest.now) wanted.now requests.now ≡ true) × (e ≡ Refusal.Batch)) }
 {
-    let batch = Batch::from_slice(requests).map_err(|_| Refusal::Batch)?;
-    let d = batch_digest(digest, requests).map_err(|_| Refusal::Batch)?;
-    if d != *wanted || (requests.len() > 0 && d == DigestValue::from(0)) {
-        return Err(Refusal::Batch);
-    }
-    Ok(batch)
+    check_batch(digest, wanted, requests)?;
+    stored(requests)
 }
 
 // No `==`: payload and seal do not count.
@@ -70,11 +91,13 @@ impl Core {
     ) -> bool
         ensures { result ≡ bad_request (C.accepts checker.now) (D.value digest.now) self.now s earlier.now q.now }
     {
-        let bucket = bucket(digest, q.client, q.timestamp);
+        // the bucket is asked for only where all before it holds: it costs a digest
         !self.windows.admits(q.client, q.timestamp)
             || has_request(earlier, q)
             || is_known(&self.table.places, self.table.stable, self.delivered, q)
-            || !self.view.in_bucket(&self.house, s, bucket)
+            || !self
+                .view
+                .in_bucket(&self.house, s, bucket(digest, q.client, q.timestamp))
             || !checker.genuine(&q.statement(), q.seal)
     }
 

@@ -1,6 +1,6 @@
 // The place of one number.
 ghost use Rattle.std.specs.Prelude.{◌≡◌};
-ghost use Rattle.table.specs.Places.{empty_place, filled, supplied, prepared, committed, certified, proposes, kept_batch, entered};
+ghost use Rattle.table.specs.Places.{empty_place, filled, supplied, prepared, committed, certified, proposes, entered};
 
 use crate::records::{Ballot, Ballots, Certificate, Place};
 use wire::records::{Batch, DigestValue};
@@ -63,19 +63,15 @@ impl Place {
     }
 
     #[tactic(auto, unfolding(wire::specs::Values::same_digest))]
-    fn kept_batch(&self, digest: &DigestValue) -> Option<Batch>
-        ensures { result ≡ kept_batch digest.now self.now }
-    {
-        if *digest == DigestValue::from(0) {
-            return Some(Batch::new());
-        }
-        self.batch.filter(|_| self.proposes(digest))
-    }
-
     pub(crate) fn enter(&mut self, chosen: Option<DigestValue>)
         ensures { self.new ≡ entered chosen self.old }
     {
-        self.batch = chosen.and_then(|digest| self.kept_batch(&digest));
+        // a batch that stays is left where it is, and not copied
+        if chosen.is_some_and(|digest| digest == DigestValue::from(0)) {
+            self.batch = Some(Batch::new());
+        } else if !chosen.is_some_and(|digest| self.proposes(&digest)) {
+            self.batch = None;
+        }
         self.proposal = chosen;
         self.prepares = Ballots::new();
         self.commits = Ballots::new();

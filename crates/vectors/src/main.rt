@@ -9,7 +9,7 @@ mod words;
 use digest::fnv::Fnv1a;
 use digest::truncated::Sha256;
 use published::{FNV, SHA256, Vector};
-use words::Published;
+use words::{Published, Words};
 
 // Whether the message has the digest that is published.
 fn compare<const N: usize, D: Published<N>>(
@@ -17,15 +17,20 @@ fn compare<const N: usize, D: Published<N>>(
     digest: &D,
     vector: &Vector<N>,
 ) -> anyhow::Result<bool> {
-    let text = vector.message.text(rt.alloc())?;
-    let message = text.as_str().as_bytes();
+    let repeated = vector.message.repeated(rt.alloc())?;
+    let text = repeated
+        .as_ref()
+        .map_or(vector.message.part(), |text| text.as_str());
+    let message = text.as_bytes();
     let found = digest.words(message);
     let same = found == vector.digest && found.first() == Some(&digest.digest(message).word);
-    print!(rt; "{} of {}: ", digest.name(), vector.message)?;
-    for word in &found {
-        print!(rt; "{word:016x}")?;
-    }
-    println!(rt; " {}", if same { "as published" } else { "WRONG" })?;
+    println!(rt;
+        "{} of {}: {} {}",
+        digest.name(),
+        vector.message,
+        Words(&found),
+        if same { "as published" } else { "WRONG" }
+    )?;
     Ok(same)
 }
 

@@ -14,10 +14,19 @@ pub enum Message {
 }
 
 impl Message {
-    pub(crate) fn text(&self, alloc: Global) -> Result<String, AllocError> {
+    // What is to be repeated, or the text itself.
+    pub(crate) fn part(&self) -> &'static str {
         match *self {
-            Message::Text(text) => String::from_str(alloc, text),
-            Message::Named { part, times, .. } => part.repeat(alloc, times),
+            Message::Text(text) => text,
+            Message::Named { part, .. } => part,
+        }
+    }
+
+    // The message that a part makes. A text takes no memory: it stands whole.
+    pub(crate) fn repeated(&self, alloc: Global) -> Result<Option<String>, AllocError> {
+        match *self {
+            Message::Text(_) => Ok(None),
+            Message::Named { part, times, .. } => Ok(Some(part.repeat(alloc, times)?)),
         }
     }
 }

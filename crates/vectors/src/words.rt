@@ -6,12 +6,26 @@ use digest::fnv::Fnv1a;
 use digest::interface::Digest;
 use digest::sha256::sha256;
 use digest::truncated::Sha256;
+use std::fmt;
 
 // A digest that is published as N big-endian numbers of 64 bits, of which its value is the first.
 pub trait Published<const N: usize>: Digest {
     fn name(&self) -> &'static str;
 
     fn words(&self, message: &[u8]) -> [u64; N];
+}
+
+// Numbers in hexadecimal, one after the other.
+#[derive(Clone, Copy)]
+pub struct Words<'a>(pub &'a [u64]);
+
+impl fmt::Display for Words<'_> {
+    fn fmt<W: fmt::Write>(&self, f: &mut fmt::Formatter<W>) -> fmt::Result {
+        for word in self.0 {
+            write!(f, "{word:016x}")?;
+        }
+        Ok(())
+    }
 }
 
 impl Published<1> for Fnv1a {
